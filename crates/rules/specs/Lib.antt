@@ -1,0 +1,19 @@
+-- Every definition of document 01, in its order: what a reader of the promises must believe.
+-- Words: Words. The sheet: Kind, Sub, Record, Context. Turned down: Grammar, Refusals. The rules: Rule, Types, Annotations,
+-- Conditions, Bodies. What a caller gets: Answer, Buffer, Printed. The cases that document 01 marks: Table.
+pub mod Words
+pub mod Kind
+pub mod Sub
+pub mod Record
+pub mod Context
+pub mod Grammar
+pub mod Refusals
+pub mod Rule
+pub mod Types
+pub mod Annotations
+pub mod Conditions
+pub mod Bodies
+pub mod Answer
+pub mod Buffer
+pub mod Printed
+pub mod Table
