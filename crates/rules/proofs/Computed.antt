@@ -2,7 +2,7 @@
 use mathlib.Core.List.{flatten, flatMap}
 use Rattle.rules.specs.Words.{anyOf, select, front, rest, items, lookUp, sameBytes, number, bytes}
 use Rattle.rules.specs.Kind
-use Rattle.rules.specs.Record.{decode, pieces, records}
+use Rattle.rules.specs.Record.{subIn, fitsIn, nameIn, ordinalSpanIn, valueIn, decode, pieces, records}
 use Rattle.rules.specs.Context.{wordFrom, validFieldName, declared, contextOf, behind, chainEnd}
 use Rattle.rules.specs.Grammar.{done, opened, partStep, typeStep, fieldStep, fieldListStep, enumStep, unionStep, contextStep, step}
 use Rattle.rules.specs.Refusals.{ownFault, recordStep, firstFault, endlessChain, recordsFault, refusal}
@@ -16,5 +16,5 @@ use Rattle.rules.specs.Buffer.{encode, written, bufferAfter}
 use Rattle.rules.specs.Printed.{digits, violationLine, countsLine, refusalLine, printed}
 
 unfoldable pub computed : Unit {0}
-unfolding flatten flatMap anyOf select front rest items lookUp sameBytes number bytes Kind.partsOf decode pieces records wordFrom validFieldName declared contextOf behind chainEnd done opened partStep typeStep fieldStep fieldListStep enumStep unionStep contextStep step ownFault recordStep firstFault endlessChain recordsFault refusal ruleRow isInvalidMapKey ownTypeViolations typesViolations annotationViolations combinedViolations duplicateAnnotations annotationsViolations operandViolations ownConditionViolations conditionViolations memberViolations itemsViolations fieldViolations fieldItemViolations fieldListViolations enumViolations flagsViolations unionViolations newtypeViolations bodyViolations violationsOf foundIn fullList answer encode written bufferAfter digits violationLine countsLine refusalLine printed
+unfolding flatten flatMap anyOf select front rest items lookUp sameBytes number bytes Kind.partsOf subIn fitsIn nameIn ordinalSpanIn valueIn decode pieces records wordFrom validFieldName declared contextOf behind chainEnd done opened partStep typeStep fieldStep fieldListStep enumStep unionStep contextStep step ownFault recordStep firstFault endlessChain recordsFault refusal ruleRow isInvalidMapKey ownTypeViolations typesViolations annotationViolations combinedViolations duplicateAnnotations annotationsViolations operandViolations ownConditionViolations conditionViolations memberViolations itemsViolations fieldViolations fieldItemViolations fieldListViolations enumViolations flagsViolations unionViolations newtypeViolations bodyViolations violationsOf foundIn fullList answer encode written bufferAfter digits violationLine countsLine refusalLine printed
 computed = tt

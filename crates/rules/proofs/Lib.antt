@@ -1,3 +1,38 @@
+-- The proved table.
 pub mod Computed
 pub mod Table
 pub mod Printed
+-- What accepted sheets are made of.
+pub mod Lists
+pub mod Machine
+pub mod Taken
+pub mod Accepted
+pub mod AcceptedSheet
+pub mod BodyKinds
+pub mod Lead
+-- Demand 3.
+pub mod Occurrences
+pub mod ItemCounts
+pub mod Cut
+pub mod SameLead
+pub mod SheetCounts
+pub mod Moved
+pub mod ReorderedCounts
+pub mod Added
+pub mod AddedCounts
+pub mod AddedExamples
+pub mod Distinct
+pub mod Repeats
+pub mod FieldListCounted
+pub mod Counted
+pub mod CountedExamples
+-- Bounds.
+pub mod Lengths
+pub mod FieldBound
+pub mod Bound
+-- Encoding, chains, and the bytes that are not used.
+pub mod Every
+pub mod Places
+pub mod Encoding
+pub mod Chains
+pub mod Unused

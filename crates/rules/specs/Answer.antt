@@ -43,12 +43,7 @@ unfoldable pub answer : List ℕ → List ℕ → AnswerValues
 answer sheet names =
     elim (refusal sheet names) [
       | some f ↦ record { number = f .number; index = f .index; total = 0; errors = 0 }
-      | none ↦ record {
-        number = 0;
-        index = 0;
-        total = totalOf (fullList sheet names);
-        errors = errorsOf (fullList sheet names);
-      }
+      | none ↦ let vs : List Violation = fullList sheet names in record { number = 0; index = 0; total = totalOf vs; errors = errorsOf vs }
     ]
 
 -- the number of each refusal

@@ -1,10 +1,12 @@
 -- Every definition of document 01, in its order: what a reader of the promises must believe.
--- Words: Words. The sheet: Kind, Sub, Record, Context. Turned down: Grammar, Refusals. The rules: Rule, Types, Annotations,
+-- Words: Words. The sheet: Kind, Sub, Record, Used, Context. Turned down: Grammar, Refusals. The rules: Rule, Types, Annotations,
 -- Conditions, Bodies. What a caller gets: Answer, Buffer, Printed. The cases that document 01 marks: Table.
+-- What demand 3 speaks of: Items.
 pub mod Words
 pub mod Kind
 pub mod Sub
 pub mod Record
+pub mod Used
 pub mod Context
 pub mod Grammar
 pub mod Refusals
@@ -17,3 +19,4 @@ pub mod Answer
 pub mod Buffer
 pub mod Printed
 pub mod Table
+pub mod Items

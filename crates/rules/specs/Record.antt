@@ -1,7 +1,7 @@
 -- The sheet: records of 32 bytes, no header, numbers little-endian.
 -- Byte 0 kind, 1 sub, 2 name length, 3 zero, 4-7 name offset in the names text, 8-15 span, 16-23 ordinal's span, 24-31 value.
 -- Only what a kind uses is read, so the bytes that it does not use alter nothing.
-use Prim.Native.Nat.{ℕ, zero, suc, _+_, _-_, _/_, _%_, _^_}
+use Prim.Native.Nat.{ℕ, zero, suc, _+_, _-_, _*_, _/_, _%_, _^_}
 use mathlib.Core.Bool.{Bool, true, false, not, _&&_, _||_}
 use mathlib.Core.List.{List, [], _∷_, map}
 use lib.ListN.{length, getD, take, drop}
@@ -75,22 +75,51 @@ subByteBits v = v % 256
 abbrev pub subByteSigned : ℕ → Bool
 subByteSigned v = eqb (v / 256 % 2) 1
 
+-- the fields of 32 bytes
+abbrev pub kindIn : List ℕ → ℕ
+kindIn b = getD b 0 0
+
+unfoldable pub subIn : List ℕ → ℕ
+subIn b = numberIf (ltb 0 (Kind.subCount (kindIn b))) (getD b 1 0)
+
+abbrev pub cleanIn : List ℕ → Bool
+cleanIn b = eqb (getD b 3 0) 0
+
+abbrev pub isNamedIn : List ℕ → Bool
+isNamedIn b = Kind.hasName (kindIn b) (subIn b)
+
+unfoldable pub fitsIn : List ℕ → List ℕ → Bool
+fitsIn names b = not (isNamedIn b) || nameFits names b
+
+unfoldable pub nameIn : List ℕ → List ℕ → List ℕ
+nameIn names b = onlyIf (isNamedIn b) (namePart names b)
+
+abbrev pub spanIn : List ℕ → Span
+spanIn b = spanAt 8 b
+
+unfoldable pub ordinalSpanIn : List ℕ → Span
+ordinalSpanIn b = spanIf (Kind.hasOrdinalSpan (kindIn b)) (spanAt 16 b)
+
+unfoldable pub valueIn : List ℕ → ℕ
+valueIn b = valueOf (kindIn b) (numberAt 24 8 b)
+
 -- the record that 32 bytes are
 unfoldable pub decode : List ℕ → List ℕ → Rec (List ℕ) Span
 decode names b =
-    let k : ℕ = getD b 0 0 in
-    let s : ℕ = numberIf (ltb 0 (Kind.subCount k)) (getD b 1 0) in
-    let named : Bool = Kind.hasName k s in
     record {
-      kind = k;
-      sub = s;
-      clean = eqb (getD b 3 0) 0;
-      fits = not named || nameFits names b;
-      name = onlyIf named (namePart names b);
-      place = spanAt 8 b;
-      ordinalPlace = spanIf (Kind.hasOrdinalSpan k) (spanAt 16 b);
-      value = valueOf k (numberAt 24 8 b);
+      kind = kindIn b;
+      sub = subIn b;
+      clean = cleanIn b;
+      fits = fitsIn names b;
+      name = nameIn names b;
+      place = spanIn b;
+      ordinalPlace = ordinalSpanIn b;
+      value = valueIn b;
     }
+
+-- the bytes of record i; past the end of the sheet they are fewer, or none
+abbrev pub recordBytes : List ℕ → ℕ → List ℕ
+recordBytes sheet i = take recordSize (drop (recordSize * i) sheet)
 
 -- n pieces of 32 bytes
 unfoldable pub pieces : ℕ → List ℕ → List (List ℕ)
