@@ -1,23 +1,21 @@
--- What acceptance by rows 3 to 8 says of the kinds: the context ends at the one head, the body has none of the context's kinds, and each
--- body begins with an item, because each state takes only the kinds that its step tests for.
-use Prim.Native.Nat.{ℕ, suc, _≤_, _<_}
+-- What acceptance by rows 3 to 8 says of the kinds: each state takes only the kinds that its step tests for, so the context ends at the
+-- one head, and what follows is a body, which has none of the context's kinds and is read by the grammar alone.
+use Prim.Native.Nat.{ℕ, suc, _≤_}
 use mathlib.Core.Path.{_≡_, refl, sym, ap, _∙_}
-use mathlib.Core.Bool.{Bool, true, false, not, _&&_, _||_, true≢false, and-false}
-use mathlib.Core.List.{List, [], _∷_, _++_, append-nil}
+use mathlib.Core.Bool.{Bool, true, false, _&&_, _||_, true≢false}
+use mathlib.Core.List.{List, [], _∷_, _++_}
 use mathlib.Core.Option.{Option, some, none}
 use native.Mathlib.Omega.{arith}
 use lib.Dec.{leb, eqb}
-use lib.ListN.{length}
-use borrow.Author.Tests.{leb-true, leb-false, le-leb, lt-leb, eqb-true, ne-eqb}
-use Rattle.rules.specs.Words.{within, anyOf, onlyIf, front, rest, Item, items}
+use borrow.Author.Tests.{ne-eqb}
+use Rattle.rules.specs.Words.{within, anyOf, onlyIf}
 use Rattle.rules.specs.Kind
 use Rattle.rules.specs.Sub
 use Rattle.rules.specs.Record.{Rec, is, isOf}
-use Rattle.rules.specs.Grammar.{Step, to, fault, lifted, guarded, State, context, message, enum, flags, union, newtype, TypeState, typeStep, noType, start, done, opened, step, contextStep, contextItem, startsContextItem, noneDue, between, unbacked, outside, typeDue, fieldListStep, enumStep, unionStep, startsItem, startsFieldItem}
+use Rattle.rules.specs.Grammar.{Step, to, fault, State, context, message, enum, flags, union, newtype, TypeState, typeStep, noType, start, done, opened, step, contextStep, contextItem, startsContextItem, noneDue, between, unbacked, outside, typeDue, fieldListStep, enumStep, unionStep, startsItem, startsFieldItem}
 use Rattle.rules.specs.Refusals.{Fault, ownFault, recordStep, firstFault}
-use Rattle.rules.proofs.Lists.{and-left, and-right, or-left, or-right, anyOf-append, noneOf-weaker}
 use Rattle.rules.proofs.Machine.{to-inj, guarded-to, lifted-to, reads, readsOn, reads-kinds}
-use Rattle.rules.proofs.Taken.{within-true, within-false, outside-is, or-cases, type-kind, fieldList-kind, enum-kind, union-kind}
+use Rattle.rules.proofs.Taken.{within-true, within-false, or-cases, fieldList-range, type-kind, fieldList-kind, enum-kind, union-kind}
 
 -- no fault was found
 abbrev pub isClean : Option Fault → Bool
@@ -46,7 +44,10 @@ opened-body sub = go (eqb sub Sub.MessageHead) (eqb sub Sub.EnumHead) (eqb sub S
           | true ↦ message between
           | false ↦ elim b as (λ x. State) [
             | true ↦ enum unbacked
-            | false ↦ elim c as (λ x. State) [ true ↦ flags | false ↦ elim d as (λ x. State) [ true ↦ union outside | false ↦ newtype typeDue ] ]
+            | false ↦ elim c as (λ x. State) [
+              | true ↦ flags
+              | false ↦ elim d as (λ x. State) [ true ↦ union outside | false ↦ newtype typeDue ]
+            ]
           ]
         ]) ≡ true
     go true b c d = refl
@@ -54,12 +55,6 @@ opened-body sub = go (eqb sub Sub.MessageHead) (eqb sub Sub.EnumHead) (eqb sub S
     go false false true d = refl
     go false false false true = refl
     go false false false false = refl
-
-from-11 : (k : ℕ) → (within 11 13 k || leb 20 k) ≡ true → 11 ≤ k
-from-11 k h =
-    or-cases (within 11 13 k) (leb 20 k) h
-    (λ e. let w = within-true 11 13 k e in omega arith)
-    (λ e. let w = leb-true 20 k e in omega arith)
 
 module _ {N P : Type 0} where
   -- a machine's step at a record that is at no fault of its own: rows 3 to 7
@@ -74,19 +69,36 @@ module _ {N P : Type 0} where
       go none e = rw (e, checked) at h
       go (some n) e = cc (rw (e, checked) at h)
 
+  -- a body goes on with kinds past the head's
   body-kind : (s : State) (r : Rec N P) (t : State) → inBody s ≡ true → step s r ≡ to t → (11 ≤ r .kind) × (inBody t ≡ true)
   unfolding step
   body-kind (context s) r t b h = absurd (true≢false (sym b))
-  body-kind (message s) r t b h = let l = lifted-to message (fieldListStep s r) h in (from-11 (r .kind) (fieldList-kind s r (l .1)), rw (← (l .2)))
-  body-kind (enum s) r t b h = let l = lifted-to enum (enumStep s r) h in let k = within-true 14 16 (r .kind) (enum-kind s r (l .1)) in (omega arith, rw (← (l .2)))
-  body-kind flags r t b h = let g = guarded-to (startsItem r) (to flags) h in let k = within-true 14 15 (r .kind) (g .0) in (omega arith, cc)
-  body-kind (union s) r t b h = let l = lifted-to union (unionStep s r) h in (
-    or-cases (startsItem r) (startsFieldItem r || leb 20 (r .kind)) (union-kind s r (l .1))
-        (λ e. let k = within-true 14 15 (r .kind) e in omega arith)
-        (from-11 (r .kind)),
-    rw (← (l .2)),
-  )
-  body-kind (newtype s) r t b h = let l = lifted-to newtype (typeStep s r) h in let k = type-kind s r (l .1) in (omega arith, rw (← (l .2)))
+  body-kind (message s) r t b h =
+      let l = lifted-to message (fieldListStep s r) h in
+      (fieldList-range (r .kind) (fieldList-kind s r (l .1)) .0, rw (← (l .2)))
+  body-kind (enum s) r t b h =
+      let l = lifted-to enum (enumStep s r) h in
+      let k = within-true 14 16 (r .kind) (enum-kind s r (l .1)) in
+      (omega arith, rw (← (l .2)))
+  body-kind flags r t b h =
+      let g = guarded-to (startsItem r) (to flags) h in
+      let k = within-true 14 15 (r .kind) (g .0) in
+      (omega arith, cc)
+  body-kind (union s) r t b h =
+      let l = lifted-to union (unionStep s r) h in (
+        or-cases (startsItem r) (startsFieldItem r || leb Kind.Annotation (r .kind)) (union-kind s r (l .1))
+            (λ e. let k = within-true 14 15 (r .kind) e in omega arith)
+            (λ e. fieldList-range (r .kind) e .0),
+        rw (← (l .2)),
+      )
+  body-kind (newtype s) r t b h =
+      let l = lifted-to newtype (typeStep s r) h in
+      let k = type-kind s r (l .1) in
+      (omega arith, rw (← (l .2)))
+
+  -- the names declared after a record
+  abbrev namesAfter : Rec N P → List N → List N
+  namesAfter r names = onlyIf (is Kind.Declaration r) (r .name ∷ []) ++ names
 
   -- in a body, where no name is declared, the names before say nothing
   body-record : (same : N → N → Bool) (s : State) (names : List N) (r : Rec N P) → inBody s ≡ true
@@ -112,11 +124,15 @@ module _ {N P : Type 0} where
       go true e = rw (e, firstFault)
       go false e = rw (e, firstFault)
   body-clean same s names i (r ∷ rs) b =
-      rw (body-record same s names r b, firstFault) (go (checked step s r) refl (λ t. body-clean same t (onlyIf (is Kind.Declaration r) (r .name ∷ []) ++ names) (suc i) rs))
+      rw (body-record same s names r b, firstFault)
+      (go (checked step s r) refl (λ t. body-clean same t (namesAfter r names) (suc i) rs))
     where
+      later : State → Option Fault
+      later t = firstFault same t (namesAfter r names) (suc i) rs
+
       go : (n : Step State) → checked step s r ≡ n
-          → ((t : State) → inBody t ≡ true → isClean (firstFault same t (onlyIf (is Kind.Declaration r) (r .name ∷ []) ++ names) (suc i) rs) ≡ reads (checked step) done t rs)
-          → isClean (elim n as (λ x. Option Fault) [ to t ↦ firstFault same t (onlyIf (is Kind.Declaration r) (r .name ∷ []) ++ names) (suc i) rs | fault k ↦ some (record { number = k; index = i }) ])
+          → ((t : State) → inBody t ≡ true → isClean (later t) ≡ reads (checked step) done t rs)
+          → isClean (elim n as (λ x. Option Fault) [ to t ↦ later t | fault k ↦ some (record { number = k; index = i }) ])
           ≡ readsOn (checked step) done n rs
       go (to t) e ih = ih t (body-kind s r t b (checked-to step s r e) .1)
       go (fault n) e ih = refl
@@ -149,7 +165,9 @@ module _ {N P : Type 0} where
           goes-on (elim (isOf Kind.Declaration Sub.Newtype r) [ true ↦ typeDue | false ↦ noType ])
           (within-false 10 16 (r .kind) (λ p q. omega arith))
           (sym (to-inj (g .1)))
-      go false true e d = let g = guarded-to (noneDue (s .due)) (to (opened (r .sub))) (rw (e, d, contextStep) at h) in opens d (sym (to-inj (g .1)))
+      go false true e d =
+          let g = guarded-to (noneDue (s .due)) (to (opened (r .sub))) (rw (e, d, contextStep) at h) in
+          opens d (sym (to-inj (g .1)))
       go false false e d =
           let l = lifted-to context (typeStep s r) (rw (e, d, contextStep) at h) in
           let k = type-kind s r (l .1) in
@@ -166,8 +184,10 @@ module _ {N P : Type 0} where
     pub beforeKinds : anyOf (λ r. within Kind.Head Kind.Backing (r .kind)) before ≡ false
     pub bodyKinds : anyOf (λ r. within Kind.Declaration Kind.Wildcard (r .kind) || is Kind.Head r) body ≡ false
     pub bodyReads : reads (checked step) done (opened (head .sub)) body ≡ true
-    pub whole : (ys : List (Rec N P)) → isClean (firstFault same s names i (before ++ (head ∷ ys))) ≡ reads (checked step) done (opened (head .sub)) ys
+    pub whole : (ys : List (Rec N P))
+        → isClean (firstFault same s names i (before ++ (head ∷ ys))) ≡ reads (checked step) done (opened (head .sub)) ys
 
+  -- a body that is read has no record of the context, and no head
   pub body-kinds : (s : State) (rs : List (Rec N P)) → inBody s ≡ true → reads (checked step) done s rs ≡ true
       → anyOf (λ r. within Kind.Declaration Kind.Wildcard (r .kind) || is Kind.Head r) rs ≡ false
   body-kinds s rs b h = reads-kinds (checked step) done (λ u. inBody u ≡ true) _ kind s rs b h
@@ -177,10 +197,6 @@ module _ {N P : Type 0} where
       kind u r t b h =
           let k = body-kind u r t b (checked-to step u r h) in
           (rw (within-false 1 3 (r .kind) (λ p q. omega arith)) (ne-eqb (r .kind) 10 (λ q. omega arith)), k .1)
-
-  -- the names after a record
-  abbrev namesAfter : Rec N P → List N → List N
-  namesAfter r names = onlyIf (is Kind.Declaration r) (r .name ∷ []) ++ names
 
   -- a record of the context before accepted records
   further : (same : N → N → Bool) (s t : State) (names : List N) (i : ℕ) (r : Rec N P) (rs : List (Rec N P))

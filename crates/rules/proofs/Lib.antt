@@ -8,9 +8,12 @@ pub mod Machine
 pub mod Taken
 pub mod Accepted
 pub mod AcceptedSheet
-pub mod BodyKinds
 pub mod Lead
+pub mod BodyReads
+pub mod BodyKinds
 -- Demand 3.
+pub mod Reordered
+pub mod ReorderedExamples
 pub mod Occurrences
 pub mod ItemCounts
 pub mod Cut

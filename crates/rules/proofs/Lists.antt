@@ -1,8 +1,8 @@
--- Lists that a test cuts: a list is what stands before the first element that begins a piece, and then the pieces, one after the other.
+-- Lists that a test cuts: the test of an element says whether it goes on with what stands before it or begins a piece of its own.
 use mathlib.Core.Path.{_≡_, refl, ap, sym, _∙_}
 use mathlib.Core.Bool.{Bool, true, false, not, _&&_, _||_, true≢false, and-assoc}
-use mathlib.Core.List.{List, [], _∷_, _++_, flatMap}
-use Rattle.rules.specs.Words.{anyOf, select, onlyIf, front, rest, Item, items}
+use mathlib.Core.List.{List, [], _∷_, _++_}
+use Rattle.rules.specs.Words.{anyOf, select, onlyIf, front, rest, items}
 
 pub or-left : (a b : Bool) → (a || b) ≡ false → a ≡ false
 or-left true b h = h
@@ -49,7 +49,7 @@ module _ {A : Type 0} where
   allOf-append p [] ys = refl
   allOf-append p (x ∷ xs) ys = ap (λ b. p x && b) (allOf-append p xs ys) ∙ sym (and-assoc (p x) _ _)
 
-  -- what no element has, no element of a stronger test has
+  -- where no element passes a test, none passes a stronger one
   pub noneOf-weaker : (p q : A → Bool) → ((x : A) → p x ≡ false → q x ≡ false) → (xs : List A) → anyOf p xs ≡ false → anyOf q xs ≡ false
   unfolding anyOf
   noneOf-weaker p q w [] h = refl
@@ -84,20 +84,19 @@ module _ {A : Type 0} where
   pub front-rest : (p : A → Bool) (xs : List A) → front p xs ++ rest p xs ≡ xs
   unfolding front rest
   front-rest p [] = refl
-  front-rest p (x ∷ xs) = go (p x) (front-rest p xs)
+  front-rest p (x ∷ xs) = go (p x) refl (front-rest p xs)
     where
-      go : (b : Bool) → front p xs ++ rest p xs ≡ xs
-          → (elim b as (λ c. List A) [ true ↦ x ∷ front p xs | false ↦ [] ]) ++ (elim b as (λ c. List A) [ true ↦ rest p xs | false ↦ x ∷ xs ])
-          ≡ x ∷ xs
-      go true h = ap (λ zs. x ∷ zs) h
-      go false h = refl
+      go : (b : Bool) → p x ≡ b → front p xs ++ rest p xs ≡ xs → front p (x ∷ xs) ++ rest p (x ∷ xs) ≡ x ∷ xs
+      go true e ih = rw (e, front, rest) (ap (λ zs. x ∷ zs) ih)
+      go false e ih = rw (e, front, rest)
 
   -- the property holds of each element
   pub data Each (P : A → Type 0) : List A → Type 0 where
     each-nil : Each P []
     each-cons : {x : A} {xs : List A} → P x → Each P xs → Each P (x ∷ xs)
 
-  pub each-of : {P Q : A → Type 0} (p : A → Bool) → ((x : A) → p x ≡ true → P x → Q x) → {xs : List A} → allOf p xs ≡ true → Each P xs → Each Q xs
+  pub each-of : {P Q : A → Type 0} (p : A → Bool) → ((x : A) → p x ≡ true → P x → Q x) → {xs : List A}
+      → allOf p xs ≡ true → Each P xs → Each Q xs
   unfolding allOf
   each-of p f h each-nil = each-nil
   each-of p f h (each-cons {x} {xs} k ks) = each-cons (f x (and-left (p x) _ h) k) (each-of p f (and-right (p x) _ h) ks)
@@ -135,7 +134,7 @@ module _ {A : Type 0} where
       go true e ih = rw (e, items) (each-cons (e, front-has start xs) ih)
       go false e ih = rw (e, items) ih
 
-  -- what no element has, no element of its front has
+  -- where no element passes a test, none of the front does
   pub noneOf-front : (p q : A → Bool) (xs : List A) → anyOf p xs ≡ false → anyOf p (front q xs) ≡ false
   unfolding anyOf front
   noneOf-front p q [] h = refl
@@ -145,13 +144,13 @@ module _ {A : Type 0} where
       go true e ih = rw (e, front, or-left (p x) _ h) ih
       go false e ih = rw (e, front)
 
-  -- elements behind one that none of the test has
+  -- what passes no test may be left off behind an element
   pub anyOf-before : (p : A → Bool) (xs ys : List A) (y : A) → anyOf p ys ≡ false → anyOf p (xs ++ (y ∷ ys)) ≡ anyOf p (xs ++ (y ∷ []))
   unfolding anyOf
   anyOf-before p [] ys y h = rw h
   anyOf-before p (x ∷ xs) ys y h = ap (λ b. p x || b) (anyOf-before p xs ys y h)
 
-  select-none : (p : A → Bool) (ys : List A) → anyOf p ys ≡ false → select p ys ≡ []
+  pub select-none : (p : A → Bool) (ys : List A) → anyOf p ys ≡ false → select p ys ≡ []
   unfolding anyOf select
   select-none p [] h = refl
   select-none p (y ∷ ys) h = rw (or-left (p y) _ h) (select-none p ys (or-right (p y) _ h))

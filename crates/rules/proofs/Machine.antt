@@ -2,7 +2,7 @@
 -- element's own, a list is read to the end exactly if what stands before the pieces is, and each piece by itself.
 use mathlib.Core.Path.{_≡_, refl, sym, ap, _∙_}
 use mathlib.Core.Bool.{Bool, true, false, not, _&&_, _||_, true≢false, and-true, and-assoc}
-use mathlib.Core.List.{List, [], _∷_, _++_}
+use mathlib.Core.List.{List, [], _∷_}
 use Rattle.rules.specs.Words.{anyOf, front, Item, items}
 use Rattle.rules.specs.Grammar.{Step, to, fault, lifted, guarded}
 use Rattle.rules.proofs.Lists.{allOf, or-left, or-right}
@@ -53,7 +53,9 @@ module _ {S A : Type 0} (step : S → A → Step S) (finished : S → Bool) wher
 
         go : (b : Bool) → start x ≡ b → Split
             → reads s (x ∷ xs) ≡ (reads s (front (λ y. not (start y)) (x ∷ xs)) && allOf readsItem (items start (x ∷ xs)))
-        go true e ih = rw (e, front, items) (begins s x xs e ∙ rw (ih (enter x)) (ap (λ b. finished s && b) (sym (and-assoc (allowed x) _ _))))
+        go true e ih =
+            rw (e, front, items)
+            (begins s x xs e ∙ rw (ih (enter x)) (ap (λ b. finished s && b) (sym (and-assoc (allowed x) _ _))))
         go false e ih = rw (e, front, items) (on (step s x) ih)
 
   -- where a list is read, its first element is taken
@@ -80,7 +82,8 @@ module _ {S A : Type 0} (step : S → A → Step S) (finished : S → Bool) wher
 
 module _ {S U A : Type 0} where
   -- a machine within a larger one reads what that one reads, on elements at which their steps are the same
-  pub reads-lifted : (inner : S → A → Step S) (innerDone : S → Bool) (outer : U → A → Step U) (outerDone : U → Bool) (f : S → U) (bad : A → Bool)
+  pub reads-lifted : (inner : S → A → Step S) (innerDone : S → Bool) (outer : U → A → Step U) (outerDone : U → Bool) (f : S → U)
+      (bad : A → Bool)
       → ((s : S) (x : A) → bad x ≡ false → outer (f s) x ≡ lifted f (inner s x))
       → ((s : S) → outerDone (f s) ≡ innerDone s)
       → (s : S) (xs : List A) → anyOf bad xs ≡ false → reads outer outerDone (f s) xs ≡ reads inner innerDone s xs

@@ -1,16 +1,16 @@
 -- Which kinds each state of the grammar takes: read off its step, by the tests that it makes.
-use Prim.Native.Nat.{ℕ, suc, _≤_, _<_}
-use mathlib.Core.Path.{_≡_, refl, sym, ap, _∙_}
+use Prim.Native.Nat.{ℕ, suc, _≤_}
+use mathlib.Core.Path.{_≡_, refl, sym, _∙_}
 use mathlib.Core.Bool.{Bool, true, false, not, _&&_, _||_, true≢false}
 use mathlib.Core.List.{List, [], _∷_, _++_, map}
 use native.Mathlib.Omega.{arith}
 use lib.Dec.{leb, ltb, eqb}
-use borrow.Author.Tests.{leb-true, leb-false, le-leb, lt-leb, eqb-true, ne-eqb}
+use borrow.Author.Tests.{leb-true, le-leb, eqb-true, ne-eqb}
 use Rattle.rules.specs.Words.{within, onlyIf}
 use Rattle.rules.specs.Kind
 use Rattle.rules.specs.Kind.{Part, type, condition, operand}
 use Rattle.rules.specs.Record.{Rec, is}
-use Rattle.rules.specs.Grammar.{Step, to, fault, lifted, guarded, Due, TypeState, FieldState, annotations, typed, conditioned, typeDue, dueAt, maxDepth, noneDue, backingMayCome, items, inUnionItem, FieldListState, between, field, UnionState, outside, variant, EnumState, partStep, typeStep, fieldStep, fieldListStep, startsFieldItem, startsItem, inFieldItem, enumStep, unionStep, contextStep, startsContextItem}
+use Rattle.rules.specs.Grammar.{to, Due, TypeState, FieldState, annotations, typed, conditioned, typeDue, dueAt, maxDepth, noneDue, backingMayCome, items, inUnionItem, FieldListState, between, field, UnionState, outside, variant, EnumState, partStep, typeStep, fieldStep, fieldListStep, startsFieldItem, startsItem, inFieldItem, enumStep, unionStep}
 use Rattle.rules.proofs.Lists.{and-left, and-right, allOf, allOf-append}
 use Rattle.rules.proofs.Machine.{to-inj, guarded-to, lifted-to}
 
@@ -46,6 +46,15 @@ narrower low high a b n l u h =
 pub outside-is : (low high j n : ℕ) → within low high j ≡ true → within low high n ≡ false → eqb n j ≡ false
 outside-is low high j n p q = ne-eqb n j (λ e. absurd (true≢false (sym p ∙ (rw e at q))))
 
+-- what a field list takes lies past the head, and is no record of another body
+pub fieldList-range : (k : ℕ) → (within Kind.Field Kind.Invariant k || leb Kind.Annotation k) ≡ true
+    → (11 ≤ k) × (within Kind.Variant Kind.Backing k ≡ false)
+fieldList-range k h =
+    or-cases (within 11 13 k) (leb 20 k) h
+    (λ e. let w = within-true 11 13 k e in (omega arith, within-false 14 16 k (λ p q. omega arith)))
+    (λ e. let w = leb-true 20 k e in (omega arith, within-false 14 16 k (λ p q. omega arith)))
+
+-- the parts of types and conditions, and the types, annotations and conditions of fields have the kinds from 20 on
 part-from : (p : Part) (k : ℕ) → Kind.isPart p k ≡ true → 20 ≤ k
 part-from type k h = let w = within-true 30 48 k h in omega arith
 part-from condition k h = let w = within-true 50 56 k h in omega arith
@@ -98,8 +107,8 @@ module _ {N P : Type 0} where
       go q true true e f = let z : true ≡ false = cc (rw (q, e, f, partStep) at h) in absurd (true≢false z)
       go q true false e f = (
         e,
-        rw (← (to-inj (rw (q, e, f, partStep) at h)), allOf-append isTypeDue (map (dueAt (suc (d .depth))) (Kind.partsOf (r .kind))) ds, type-parts (suc (d .depth)) (r .kind) e)
-            (and-right (isTypeDue d) _ a),
+        rw (← (to-inj (rw (q, e, f, partStep) at h)), allOf-append isTypeDue (map (dueAt (suc (d .depth))) (Kind.partsOf (r .kind))) ds)
+            (rw (type-parts (suc (d .depth)) (r .kind) e) (and-right (isTypeDue d) _ a)),
       )
       go q false c e f = let z : true ≡ false = cc (rw (q, e, partStep) at h) in absurd (true≢false z)
 
@@ -108,6 +117,7 @@ module _ {N P : Type 0} where
       on condition q = absurd (true≢false (sym (rw q at (and-left (isTypeDue d) _ a))))
       on operand q = absurd (true≢false (sym (rw q at (and-left (isTypeDue d) _ a))))
 
+  -- so is a bit name
   pub type-type : (s : TypeState) (r : Rec N P) {t : TypeState} → allOf isTypeDue (s .due) ≡ true → typeStep s r ≡ to t
       → ((is Kind.BitName r || Kind.isType (r .kind)) ≡ true) × (allOf isTypeDue (t .due) ≡ true)
   unfolding typeStep
@@ -139,7 +149,9 @@ module _ {N P : Type 0} where
   field-kind (typed s) r h = go (noneDue (s .due) && not (is Kind.BitName r)) refl
     where
       go : (b : Bool) → (noneDue (s .due) && not (is Kind.BitName r)) ≡ b → 20 ≤ r .kind
-      go true e = part-kind (dueAt 1 condition ∷ []) r (lifted-to conditioned (partStep (dueAt 1 condition ∷ []) r) (rw (e, fieldStep) at h) .1)
+      go true e =
+          let ds = dueAt 1 condition ∷ [] in
+          part-kind ds r (lifted-to conditioned (partStep ds r) (rw (e, fieldStep) at h) .1)
       go false e = type-kind s r (lifted-to typed (typeStep s r) (rw (e, fieldStep) at h) .1)
   field-kind (conditioned ds) r h = part-kind ds r (lifted-to conditioned (partStep ds r) h .1)
 
@@ -148,33 +160,38 @@ module _ {N P : Type 0} where
   in-field-item (field s) r h = field-kind s r (lifted-to field (fieldStep s r) h .1)
 
   -- a field list takes the beginning of an item, or what belongs to one
-  pub fieldList-kind : (s : FieldListState) (r : Rec N P) {t : FieldListState} → fieldListStep s r ≡ to t → (startsFieldItem r || leb 20 (r .kind)) ≡ true
+  pub fieldList-kind : (s : FieldListState) (r : Rec N P) {t : FieldListState} → fieldListStep s r ≡ to t
+      → (startsFieldItem r || leb Kind.Annotation (r .kind)) ≡ true
   unfolding fieldListStep
   fieldList-kind s r h = go (startsFieldItem r) refl
     where
-      go : (b : Bool) → startsFieldItem r ≡ b → (startsFieldItem r || leb 20 (r .kind)) ≡ true
+      go : (b : Bool) → startsFieldItem r ≡ b → (startsFieldItem r || leb Kind.Annotation (r .kind)) ≡ true
       go true e = rw e
       go false e = rw e (le-leb 20 (r .kind) (in-field-item s r (rw (e, fieldListStep) at h)))
 
-  pub enum-kind : (s : EnumState) (r : Rec N P) {t : EnumState} → enumStep s r ≡ to t → within 14 16 (r .kind) ≡ true
+  -- an enum takes a variant, a tombstone or a backing
+  pub enum-kind : (s : EnumState) (r : Rec N P) {t : EnumState} → enumStep s r ≡ to t → within Kind.Variant Kind.Backing (r .kind) ≡ true
   unfolding enumStep
   enum-kind s r h = go (startsItem r) refl
     where
-      go : (b : Bool) → startsItem r ≡ b → within 14 16 (r .kind) ≡ true
+      go : (b : Bool) → startsItem r ≡ b → within Kind.Variant Kind.Backing (r .kind) ≡ true
       go true e = let k = within-true 14 15 (r .kind) e in within-intro 14 16 (r .kind) (omega arith) (omega arith)
       go false e =
           let g = guarded-to (backingMayCome s && is Kind.Backing r) (to items) (rw (e, enumStep) at h) in
           let k = eqb-true (r .kind) 16 (and-right (backingMayCome s) (is Kind.Backing r) (g .0)) in
           within-intro 14 16 (r .kind) (omega arith) (omega arith)
 
-  in-union-item : (s : UnionState) (r : Rec N P) {t : UnionState} → inUnionItem s r ≡ to t → (startsFieldItem r || leb 20 (r .kind)) ≡ true
+  in-union-item : (s : UnionState) (r : Rec N P) {t : UnionState} → inUnionItem s r ≡ to t
+      → (startsFieldItem r || leb Kind.Annotation (r .kind)) ≡ true
   in-union-item outside r h = cc
   in-union-item (variant s) r h = fieldList-kind s r (lifted-to variant (fieldListStep s r) h .1)
 
-  pub union-kind : (s : UnionState) (r : Rec N P) {t : UnionState} → unionStep s r ≡ to t → (startsItem r || (startsFieldItem r || leb 20 (r .kind))) ≡ true
+  -- a union takes the beginning of an item, or what a field list takes
+  pub union-kind : (s : UnionState) (r : Rec N P) {t : UnionState} → unionStep s r ≡ to t
+      → (startsItem r || (startsFieldItem r || leb Kind.Annotation (r .kind))) ≡ true
   unfolding unionStep
   union-kind s r h = go (startsItem r) refl
     where
-      go : (b : Bool) → startsItem r ≡ b → (startsItem r || (startsFieldItem r || leb 20 (r .kind))) ≡ true
+      go : (b : Bool) → startsItem r ≡ b → (startsItem r || (startsFieldItem r || leb Kind.Annotation (r .kind))) ≡ true
       go true e = rw e
       go false e = rw e (in-union-item s r (rw (e, unionStep) at h))
