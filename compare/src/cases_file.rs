@@ -1,4 +1,5 @@
-//! Cases with their expected answers in a file, for other programs to replay.
+//! Cases with their expected answers in a file, for other programs to read: `cases` writes
+//! those of a seed, `record` the ones that the repository keeps.
 //!
 //! All numbers are little-endian. The file is the 8 bytes `cases 1\n`, the number of
 //! cases (u64), then the cases one after another:
@@ -9,7 +10,9 @@
 //!     total times 16 bytes: class u16, severity u8, zero u8, offset u32, length u32,
 //!                           rule u16, record u16
 //!
-//! The first 12 bytes of each violation are those that the list holds.
+//! The first 12 bytes of each violation are those that the list holds. An accepted case
+//! has number 0 and index 0, a refused one total 0 and errors 0. Nothing follows the last
+//! case. In the file that `record` writes one case's errors are one too few, on purpose.
 
 use crate::generate::Case;
 use crate::reading::{written, Answer};

@@ -56,16 +56,13 @@ pub fn selection() -> Result<Selection, String> {
     Ok(Selection { cases, spoiled })
 }
 
-/// Makes the errors of the first accepted case from the middle on one too many.
+/// Makes the errors one too few in the first case from the middle on that has any.
 fn spoil(cases: &mut [Recorded]) -> Result<usize, String> {
     let middle = cases.len() / 2;
-    let later = cases.iter().skip(middle);
-    let spoiled = later
-        .take_while(|recorded| recorded.answer.number != 0)
-        .count()
-        + middle;
-    let recorded = cases.get_mut(spoiled).ok_or("no accepted case to spoil")?;
-    recorded.answer.errors += 1;
+    let has_errors = |recorded: &Recorded| recorded.answer.errors > 0;
+    let after = cases[middle..].iter().position(has_errors);
+    let spoiled = middle + after.ok_or("no case with errors to spoil")?;
+    cases[spoiled].answer.errors -= 1;
     Ok(spoiled)
 }
 

@@ -20,6 +20,7 @@ use Rattle.rules.specs.Rule.{Found, violation, OrdinalDuplicate}
 use Rattle.rules.specs.Bodies.{fieldItems, bodyItems, unionViolations, bodyViolations, declarationViolations, violationsOf}
 use Rattle.rules.specs.Answer.{foundIn, fullList, isAccepted}
 use Rattle.rules.specs.Items.{sumOf, distinct, untombstoned, fieldsIn, fieldLists, distinctUntombstoned, occurrences, isInClass}
+use Rattle.rules.proofs.Joined.{select-append}
 use Rattle.rules.proofs.Lists.{or-left, or-right, noneOf-weaker, Each, each-nil, each-cons}
 use Rattle.rules.proofs.Taken.{within-true, outside-is, or-cases}
 use Rattle.rules.proofs.Accepted.{Parts, accepted-parts}
@@ -27,7 +28,7 @@ use Rattle.rules.proofs.Lead.{startsAt, from-head, items-from-head}
 use Rattle.rules.proofs.BodyKinds.{EnumBody, FlagsBody, NewtypeBody, UnionItem, UnionBody, accepted-enum, accepted-flags, accepted-union, accepted-newtype}
 use Rattle.rules.proofs.AcceptedSheet.{accepted-clean}
 use Rattle.rules.proofs.Lengths.{one, length-onlyIf}
-use Rattle.rules.proofs.Repeats.{isRepeat, repeats, repeats-nil, select-append, enum-quiet, flags-quiet, newtype-quiet, variantRepeats, union-repeats}
+use Rattle.rules.proofs.Repeats.{isRepeat, repeats, repeats-nil, enum-quiet, flags-quiet, newtype-quiet, variantRepeats, union-repeats}
 use Rattle.rules.proofs.FieldListCounted.{fields-cons, list-counted}
 
 no-fields : (N P : Type 0) → fieldsIn {N = N} {P = P} [] ≡ 0

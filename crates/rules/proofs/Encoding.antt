@@ -20,6 +20,7 @@ use Rattle.rules.specs.Rule.{Found, RuleRow, rules, ruleRow, violation}
 use Rattle.rules.specs.Refusals.{refusal}
 use Rattle.rules.specs.Answer.{foundIn, fullList}
 use Rattle.rules.specs.Buffer.{encode, decodeViolation, decodeList, writtenOf, written, violationSize, bufferAfter}
+use Rattle.rules.proofs.Joined.{length-flatMap}
 use Rattle.rules.proofs.Every.{Every, every-nil, every-cons, every-one, every-append, every-take, every-drop, every-getD}
 use Rattle.rules.proofs.Every.{every-map, every-flatMap}
 use Rattle.rules.proofs.Places.{Placed, At, violation-places}
@@ -54,15 +55,12 @@ decode-encode v rest h =
       span = record { offset = number-bytes 4 (v .span .offset) (h .offset) i; len = number-bytes 4 (v .span .len) (h .len) i };
     }
 
-length-encode : (v : Violation) → length (encode v) ≡ violationSize
+pub length-encode : (v : Violation) → length (encode v) ≡ violationSize
 unfolding encode bytes
 length-encode v = refl
 
-length-encoded : (vs : List Violation) → length (flatMap encode vs) ≡ violationSize * length vs
-unfolding flatMap
-length-encoded [] = refl
-length-encoded (v ∷ vs) =
-    omega (arith, length-append (encode v) (flatMap encode vs), length-encode v, length-encoded vs)
+pub length-encoded : (vs : List Violation) → length (flatMap encode vs) ≡ violationSize * length vs
+length-encoded = length-flatMap encode violationSize length-encode
 
 -- and so are all of a list
 decode-encoded : {vs : List Violation} (rest : List ℕ) → Every Encodable vs → decodeList (length vs) (flatMap encode vs ++ rest) ≡ vs

@@ -16,16 +16,12 @@ use Rattle.rules.specs.Grammar.{startsFieldItem}
 use Rattle.rules.specs.Rule.{ruleRow}
 use Rattle.rules.specs.Bodies.{used, retired, usedOrdinal, usedOrdinals, retiredOrdinals, isMember, isTombstone, slotOf, slots, fieldItems, fieldScheme, memberViolations, itemsViolations, fieldItemViolations, fieldListViolations}
 use Rattle.rules.specs.Items.{distinct, untombstoned, fieldsIn}
+use Rattle.rules.proofs.Joined.{flatMap-append}
 use Rattle.rules.proofs.Lists.{anyOf-append}
 use Rattle.rules.proofs.Taken.{within-true, outside-is}
 use Rattle.rules.proofs.Lengths.{one, one-not, length-onlyIf}
 use Rattle.rules.proofs.Distinct.{fresh, distinct-fresh}
 use Rattle.rules.proofs.Repeats.{isRepeat, repeats, repeats-append, repeats-nil, counting, field-item-quiet}
-
-flatMap-append : {A B : Type 0} (f : A → List B) (xs ys : List A) → flatMap f (xs ++ ys) ≡ flatMap f xs ++ flatMap f ys
-unfolding flatMap
-flatMap-append f [] ys = refl
-flatMap-append f (x ∷ xs) ys = rw append-assoc (ap (λ zs. f x ++ zs) (flatMap-append f xs ys))
 
 one-either : (a b : Bool) → one a + one (not a && b) ≡ one (b || a)
 one-either true true = refl

@@ -1,8 +1,10 @@
 -- The proved table.
 pub mod Computed
+pub mod SmallSheets
 pub mod Table
 pub mod Printed
 -- What accepted sheets are made of.
+pub mod Joined
 pub mod Lists
 pub mod Machine
 pub mod Taken
@@ -29,6 +31,7 @@ pub mod Repeats
 pub mod FieldListCounted
 pub mod Counted
 pub mod CountedExamples
+pub mod MistakeExamples
 -- Bounds.
 pub mod Lengths
 pub mod FieldBound

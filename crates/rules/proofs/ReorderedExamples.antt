@@ -1,53 +1,28 @@
 -- Sheets that are the same but for the order of their items, computed: one for each body with items, one whose names text is laid out
 -- anew, and one whose variant's fields are moved; and the limit, two sheets that differ in where half an item stands, which are not.
-use Prim.Native.Nat.{ℕ, _+_, _*_}
+use Prim.Native.Nat.{ℕ}
 use mathlib.Core.Path.{_≡_, refl, ap₂}
 use mathlib.Core.Bool.{true, false, true≢false}
 use mathlib.Core.List.{List, [], _∷_, _++_, flatten}
 use lib.ListN.{length}
 use lib.Dec.{eqb}
 use Rattle.rules.specs.declared.span.Span.{Span}
-use Rattle.rules.specs.Words.{Item, bytes}
+use Rattle.rules.specs.Words.{Item}
 use Rattle.rules.specs.Kind
 use Rattle.rules.specs.Sub
 use Rattle.rules.specs.Bodies.{fieldItems}
 use Rattle.rules.specs.Record.{Rec, records}
 use Rattle.rules.specs.Answer.{isAccepted}
 use Rattle.rules.specs.Items.{moved-nil, stay, swap, andThen, FieldsMoved, fieldLead, SameButOrder, leadOf, itemsOf}
+use Rattle.rules.specs.Table.{rec}
 use Rattle.rules.proofs.Computed.{computed}
 use Rattle.rules.proofs.Lists.{allOf}
 use Rattle.rules.proofs.Reordered.{moved-allOf}
+use Rattle.rules.proofs.SmallSheets.{abcd, headOf, u8, field, fieldTombstone, variant, tombstone, backing}
 
--- record t of a sheet: kind, sub, name length and offset, value; its spans are its own
-abbrev rec : ℕ → ℕ → ℕ → ℕ → ℕ → ℕ → List ℕ
-rec t kind sub len offset value =
-    (kind ∷ sub ∷ len ∷ 0 ∷ [])
-    ++ bytes 4 offset
-    ++ bytes 4 (10 * t)
-    ++ bytes 4 1
-    ++ bytes 4 (10 * t + 5)
-    ++ bytes 4 1
-    ++ bytes 8 value
-
--- the names texts "ab" and "..ba"
-abbrev ab : List ℕ
-ab = 97 ∷ 98 ∷ []
-
+-- the names text "..ba"
 abbrev ba : List ℕ
 ba = 46 ∷ 46 ∷ 98 ∷ 97 ∷ []
-
--- a field and a variant or bit, named by the byte at an offset; a type U8; a head
-abbrev fieldAt : ℕ → ℕ → ℕ → List ℕ
-fieldAt t offset ordinal = rec t Kind.Field 0 1 offset ordinal
-
-abbrev variantAt : ℕ → ℕ → ℕ → List ℕ
-variantAt t offset ordinal = rec t Kind.Variant 0 1 offset ordinal
-
-abbrev u8 : ℕ → List ℕ
-u8 t = rec t Kind.Primitive 1 0 0 0
-
-abbrev headOf : ℕ → List ℕ
-headOf sub = rec 1 Kind.Head sub 0 0 0
 
 -- the two sheets are accepted, each with its names text, and are the same but for the order of items
 pub record Reordering (sheet sheet′ : List (List ℕ)) (names names′ : List ℕ) : Type 0 where
@@ -65,57 +40,57 @@ abbrev annotation : List ℕ
 annotation = rec 3 Kind.Annotation 0 1 0 0
 
 abbrev kept : List (List ℕ)
-kept = headOf Sub.MessageHead ∷ fieldAt 2 0 2 ∷ annotation ∷ u8 4 ∷ fieldAt 5 1 1 ∷ u8 6 ∷ []
+kept = headOf Sub.MessageHead ∷ rec 2 Kind.Field 0 1 0 2 ∷ annotation ∷ u8 4 ∷ rec 5 Kind.Field 0 1 1 1 ∷ u8 6 ∷ []
 
 abbrev torn : List (List ℕ)
-torn = headOf Sub.MessageHead ∷ fieldAt 2 0 2 ∷ u8 4 ∷ fieldAt 5 1 1 ∷ annotation ∷ u8 6 ∷ []
+torn = headOf Sub.MessageHead ∷ rec 2 Kind.Field 0 1 0 2 ∷ u8 4 ∷ rec 5 Kind.Field 0 1 1 1 ∷ annotation ∷ u8 6 ∷ []
 
 pub record HalfMoved : Type 0 where
-  pub accepted : isAccepted (flatten kept) ab ≡ true
-  pub again : isAccepted (flatten torn) ab ≡ true
-  pub other : SameButOrder (records (flatten kept) ab) (records (flatten torn) ab) → ⊥
+  pub accepted : isAccepted (flatten kept) abcd ≡ true
+  pub again : isAccepted (flatten torn) abcd ≡ true
+  pub other : SameButOrder (records (flatten kept) abcd) (records (flatten torn) abcd) → ⊥
 
 -- A byte more leaves the records as they are, and the sheet is refused by row 1: the lengths have to be the same.
 pub record Longer : Type 0 where
-  pub same : SameButOrder (records (flatten kept) ab) (records (flatten kept ++ (0 ∷ [])) ab)
-  pub refused : isAccepted (flatten kept ++ (0 ∷ [])) ab ≡ false
+  pub same : SameButOrder (records (flatten kept) abcd) (records (flatten kept ++ (0 ∷ [])) abcd)
+  pub refused : isAccepted (flatten kept ++ (0 ∷ [])) abcd ≡ false
 
 pub record Examples : Type 0 where
   -- a field, with its type, and a tombstone change places
   pub message : Reordering
-      (headOf Sub.MessageHead ∷ fieldAt 2 0 1 ∷ u8 3 ∷ rec 4 Kind.FieldTombstone 0 0 0 5 ∷ [])
-      (headOf Sub.MessageHead ∷ rec 4 Kind.FieldTombstone 0 0 0 5 ∷ fieldAt 2 0 1 ∷ u8 3 ∷ [])
-      ab
-      ab
+      (headOf Sub.MessageHead ∷ field 2 0 1 ∷ fieldTombstone 4 5 ∷ [])
+      (headOf Sub.MessageHead ∷ fieldTombstone 4 5 ∷ field 2 0 1 ∷ [])
+      abcd
+      abcd
   -- a variant and a tombstone, behind a backing
   pub enum : Reordering
-      (headOf Sub.EnumHead ∷ rec 2 Kind.Backing 0 0 0 0 ∷ variantAt 3 0 1 ∷ rec 4 Kind.Tombstone 0 0 0 5 ∷ [])
-      (headOf Sub.EnumHead ∷ rec 2 Kind.Backing 0 0 0 0 ∷ rec 4 Kind.Tombstone 0 0 0 5 ∷ variantAt 3 0 1 ∷ [])
-      ab
-      ab
+      (headOf Sub.EnumHead ∷ backing 2 ∷ variant 3 0 1 ∷ tombstone 4 5 ∷ [])
+      (headOf Sub.EnumHead ∷ backing 2 ∷ tombstone 4 5 ∷ variant 3 0 1 ∷ [])
+      abcd
+      abcd
   -- the third bit comes first
   pub flags : Reordering
-      (headOf Sub.FlagsHead ∷ variantAt 2 0 1 ∷ variantAt 3 1 2 ∷ variantAt 4 1 3 ∷ [])
-      (headOf Sub.FlagsHead ∷ variantAt 4 1 3 ∷ variantAt 2 0 1 ∷ variantAt 3 1 2 ∷ [])
-      ab
-      ab
+      (headOf Sub.FlagsHead ∷ variant 2 0 1 ∷ variant 3 1 2 ∷ variant 4 1 3 ∷ [])
+      (headOf Sub.FlagsHead ∷ variant 4 1 3 ∷ variant 2 0 1 ∷ variant 3 1 2 ∷ [])
+      abcd
+      abcd
   -- a variant with its field, and a tombstone
   pub union : Reordering
-      (headOf Sub.UnionHead ∷ variantAt 2 0 1 ∷ fieldAt 3 1 1 ∷ u8 4 ∷ rec 5 Kind.Tombstone 0 0 0 5 ∷ [])
-      (headOf Sub.UnionHead ∷ rec 5 Kind.Tombstone 0 0 0 5 ∷ variantAt 2 0 1 ∷ fieldAt 3 1 1 ∷ u8 4 ∷ [])
-      ab
-      ab
+      (headOf Sub.UnionHead ∷ variant 2 0 1 ∷ field 3 1 1 ∷ tombstone 5 5 ∷ [])
+      (headOf Sub.UnionHead ∷ tombstone 5 5 ∷ variant 2 0 1 ∷ field 3 1 1 ∷ [])
+      abcd
+      abcd
   -- the fields of one variant, the other left as it is
   pub fields : Reordering
-      (headOf Sub.UnionHead ∷ variantAt 2 0 1 ∷ fieldAt 3 0 1 ∷ u8 4 ∷ fieldAt 5 1 2 ∷ u8 6 ∷ variantAt 7 1 2 ∷ [])
-      (headOf Sub.UnionHead ∷ variantAt 2 0 1 ∷ fieldAt 5 1 2 ∷ u8 6 ∷ fieldAt 3 0 1 ∷ u8 4 ∷ variantAt 7 1 2 ∷ [])
-      ab
-      ab
+      (headOf Sub.UnionHead ∷ variant 2 0 1 ∷ field 3 0 1 ∷ field 5 1 2 ∷ variant 7 1 2 ∷ [])
+      (headOf Sub.UnionHead ∷ variant 2 0 1 ∷ field 5 1 2 ∷ field 3 0 1 ∷ variant 7 1 2 ∷ [])
+      abcd
+      abcd
   -- two fields, whose names stand elsewhere in another names text
   pub names : Reordering
-      (headOf Sub.MessageHead ∷ fieldAt 2 0 1 ∷ u8 3 ∷ fieldAt 4 1 2 ∷ u8 5 ∷ [])
-      (headOf Sub.MessageHead ∷ fieldAt 4 2 2 ∷ u8 5 ∷ fieldAt 2 3 1 ∷ u8 3 ∷ [])
-      ab
+      (headOf Sub.MessageHead ∷ field 2 0 1 ∷ field 4 1 2 ∷ [])
+      (headOf Sub.MessageHead ∷ field 4 2 2 ∷ field 2 3 1 ∷ [])
+      abcd
       ba
   pub half : HalfMoved
   pub longer : Longer

@@ -17,6 +17,7 @@ use Rattle.rules.specs.Annotations.{annotationViolations, combinedViolat
 use Rattle.rules.specs.Conditions.{Literals, literalsOf, lengthLiterals, operandViolations, ownConditionViolations, conditionViolations}
 use Rattle.rules.specs.Bodies.{isMember, slots, usedOrdinals, retiredOrdinals, bodyItems, backingMax, Scheme, enumScheme, flagsScheme, unionScheme, memberViolations, itemsViolations, fieldViolations, fieldItemViolations, fieldListViolations, enumViolations, flagsViolations, unionViolations, newtypeViolations}
 use Rattle.rules.specs.Items.{sumOf}
+use Rattle.rules.proofs.Joined.{select-append}
 use Rattle.rules.proofs.Lengths.{one, length-onlyIf}
 
 -- the rule is of class OrdinalDuplicate or OrdinalReusedAfterRemoved
@@ -27,11 +28,6 @@ isRepeat rule =
 pub numberIf-zero : (b : Bool) → numberIf b 0 ≡ 0
 numberIf-zero true = refl
 numberIf-zero false = refl
-
-pub select-append : {A : Type 0} (p : A → Bool) (xs ys : List A) → select p (xs ++ ys) ≡ select p xs ++ select p ys
-unfolding select
-select-append p [] ys = refl
-select-append p (x ∷ xs) ys = rw append-assoc (ap (λ zs. onlyIf (p x) (x ∷ []) ++ zs) (select-append p xs ys))
 
 module _ {P : Type 0} where
   -- how many of the violations tell of a repeated ordinal

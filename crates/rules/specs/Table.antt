@@ -20,10 +20,10 @@ pub record Case : Type 0 where
   pub expected : AnswerValues
   pub list : List Violation
 
-abbrev at : ℕ → Span
+abbrev pub at : ℕ → Span
 at t = record { offset = 100 * t + 1; len = t }
 
-abbrev ordinalAt : ℕ → Span
+abbrev pub ordinalAt : ℕ → Span
 ordinalAt t = record { offset = 100 * t + 51; len = 20 + t }
 
 -- the bytes of a record: kind, sub, name length and offset, span, ordinal's span, value
@@ -38,10 +38,10 @@ bytesOf kind sub len offset span ordinalSpan value =
     ++ bytes 8 value
 
 -- record t of a row: kind, sub, name length and offset, value
-abbrev rec : ℕ → ℕ → ℕ → ℕ → ℕ → ℕ → List ℕ
+abbrev pub rec : ℕ → ℕ → ℕ → ℕ → ℕ → ℕ → List ℕ
 rec t kind sub len offset value = bytesOf kind sub len offset (at t) (ordinalAt t) value
 
-abbrev error : ℕ → Span → Violation
+abbrev pub error : ℕ → Span → Violation
 error class span = record { class = class; severity = 0; span = span }
 
 -- an accepted sheet with that list, of which all are errors

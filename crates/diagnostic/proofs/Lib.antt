@@ -1,0 +1,4 @@
+pub mod Stores
+pub mod OnePush
+pub mod Pushes
+pub mod Written
