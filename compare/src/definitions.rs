@@ -270,34 +270,60 @@ struct Change {
     new: String,
 }
 
-/// Tries each edit: the theorems of `rules` must refuse it, or a case must differ.
+/// Tries each edit: the proved table must refuse it, or a case must differ, or a theorem must refuse it.
 fn try_edits(rules: &Path, cases: &str, out: &Path, edits: &str) -> Result<bool> {
     let cases = read(&fs::read(cases)?)?;
     let edits = read_edits(&fs::read_to_string(edits)?)?;
-    let mut counts = [0; 3];
+    let mut counts = [0; 4];
     for edit in &edits {
-        lay_out(rules, &cases, out)?;
-        apply(&out.join("crates/rules"), edit)?;
-        let log = check(out, "rules")?;
-        let (how, caught) = if !is_proved(&log) {
-            (0, format!("caught by {}", first_refusal(&log)))
-        } else {
-            match differing(&check(out, "cases")?).first() {
-                Some(case) => (1, format!("caught by the run at {case}")),
-                None => (2, "NOT CAUGHT".to_string()),
-            }
-        };
+        let (how, caught) = try_edit(rules, &cases, out, edit)?;
         counts[how] += 1;
         println!("{}: {caught}", edit.label);
     }
     println!(
-        "{} edits: {} caught by theorems, {} by the run, {} not caught",
+        "{} edits: {} caught by the table, {} by the run, {} by a theorem, {} not caught",
         edits.len(),
         counts[0],
         counts[1],
-        counts[2]
+        counts[2],
+        counts[3]
     );
-    Ok(counts[2] == 0)
+    Ok(counts[3] == 0)
+}
+
+fn try_edit(rules: &Path, cases: &[Case], out: &Path, edit: &Edit) -> Result<(usize, String)> {
+    lay_out(rules, cases, out)?;
+    let ours = out.join("crates/rules");
+    apply(&ours, edit)?;
+    let theorems = fs::read(ours.join("proofs/Lib.antt"))?;
+    keep_only(&ours.join("proofs"), &["Computed", "Table"])?;
+    let log = check(out, "cases")?;
+    if let Some(case) = differing(&log).first() {
+        return Ok((1, format!("caught by the run at {case}")));
+    }
+    if !is_proved(&log) {
+        return Ok((0, format!("caught by the table at {}", first_refusal(&log))));
+    }
+    copy(&rules.join("proofs"), &ours.join("proofs"))?;
+    fs::write(ours.join("proofs/Lib.antt"), theorems)?;
+    let log = check(out, "rules")?;
+    if !is_proved(&log) {
+        return Ok((2, format!("caught by a theorem at {}", first_refusal(&log))));
+    }
+    Ok((3, "NOT CAUGHT".to_string()))
+}
+
+/// Leaves those modules of a folder of proofs.
+fn keep_only(proofs: &Path, modules: &[&str]) -> Result<()> {
+    for entry in fs::read_dir(proofs)? {
+        let path = entry?.path();
+        let stem = path.file_stem().and_then(|stem| stem.to_str()).unwrap_or_default().to_string();
+        if path.is_file() && !modules.contains(&stem.as_str()) {
+            fs::remove_file(path)?;
+        }
+    }
+    let lines: String = modules.iter().map(|module| format!("pub mod {module}\n")).collect();
+    fs::write(proofs.join("Lib.antt"), lines)
 }
 
 /// An edit is a line with its label, then one or more changes: `file:`, `old:` and `new:` lines.
