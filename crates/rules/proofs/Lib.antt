@@ -3,6 +3,8 @@ pub mod Computed
 pub mod SmallSheets
 pub mod Table
 pub mod Printed
+-- Record i of a sheet.
+pub mod Records
 -- What accepted sheets are made of.
 pub mod Joined
 pub mod Lists

@@ -1,0 +1,6 @@
+pub mod Numbers
+pub mod Part
+pub mod Below
+pub mod Matched
+pub mod Fields
+pub mod Marks
