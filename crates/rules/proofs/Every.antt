@@ -1,8 +1,10 @@
 -- What holds of every element of a list holds of every element of the lists that are made of its elements.
-use Prim.Native.Nat.{ℕ, zero, suc}
+use Prim.Native.Nat.{ℕ, zero, suc, _<_}
+use native.Mathlib.Omega.{arith}
+use mathlib.Core.Path.{_≡_, refl}
 use mathlib.Core.Bool.{Bool, true, false, not}
 use mathlib.Core.List.{List, [], _∷_, _++_, map, flatMap}
-use lib.ListN.{getD, take, drop}
+use lib.ListN.{length, getD, take, drop}
 use Rattle.rules.specs.Words.{onlyIf, select, front, rest, Item, items}
 
 pub data Every {A : Type 0} (Q : A → Type 0) : List A → Type 0 where
@@ -54,6 +56,11 @@ module _ {A : Type 0} {Q : A → Type 0} where
       go true g = g
       go false g = every-cons q h
 
+  pub every-at : {xs : List A} → Every Q xs → (d : A) (i : ℕ) → i < length xs → Q (getD xs i d)
+  every-at every-nil d i h = absurd (omega arith)
+  every-at (every-cons q qs) d zero h = q
+  every-at (every-cons q qs) d (suc i) h = every-at qs d i (omega arith)
+
   -- every element is one that some number picks
   pub every-getD : (d : A) (xs : List A) → ((i : ℕ) → Q (getD xs i d)) → Every Q xs
   every-getD d [] h = every-nil
@@ -74,6 +81,21 @@ module _ {A : Type 0} {Q : A → Type 0} where
           → Every (EveryOf Q) (elim b [ true ↦ record { head = x; rest = front (λ y. not (p y)) xs } ∷ items p xs | false ↦ items p xs ])
       go true g = every-cons (record { head = q; rest = every-front (λ y. not (p y)) h }) g
       go false g = g
+
+module _ {A : Type 0} {Q R : A → Type 0} where
+  pub every-as : ((x : A) → Q x → R x) → {xs : List A} → Every Q xs → Every R xs
+  every-as g every-nil = every-nil
+  every-as g (every-cons {x} q h) = every-cons (g x q) (every-as g h)
+
+  -- every element of a front passes the test
+  pub every-front-as : (p : A → Bool) → ((x : A) → p x ≡ true → Q x → R x) → {xs : List A} → Every Q xs → Every R (front p xs)
+  unfolding front
+  every-front-as p g every-nil = every-nil
+  every-front-as p g (every-cons {x} {xs} q h) = go (p x) refl (every-front-as p g h)
+    where
+      go : (b : Bool) → p x ≡ b → Every R (front p xs) → Every R (elim b [ true ↦ x ∷ front p xs | false ↦ [] ])
+      go true e k = every-cons (g x e q) k
+      go false e k = every-nil
 
 module _ {A B : Type 0} {Q : A → Type 0} {R : B → Type 0} where
   pub every-map : (f : A → B) → ((x : A) → Q x → R (f x)) → {xs : List A} → Every Q xs → Every R (map f xs)

@@ -44,3 +44,8 @@ pub mod Places
 pub mod Encoding
 pub mod Chains
 pub mod Unused
+-- The rules at other names.
+pub mod Mapped
+pub mod Renamed
+pub mod RenamedFields
+pub mod RenamedBodies

@@ -23,7 +23,7 @@ use Rattle.rules.specs.Printed.{printed}
 use Rattle.rules.specs.Used.{isUsed, byteOf, SameUsed}
 
 -- what is only looked at where a test passes is the same if it is the same there
-if-same : {A B : Type 0} (f : Bool → A → B) (b : Bool) (x y : A) → f false x ≡ f false y → (b ≡ true → x ≡ y) → f b x ≡ f b y
+pub if-same : {A B : Type 0} (f : Bool → A → B) (b : Bool) (x y : A) → f false x ≡ f false y → (b ≡ true → x ≡ y) → f b x ≡ f b y
 if-same f true x y e h = ap (f true) (h refl)
 if-same f false x y e h = e
 

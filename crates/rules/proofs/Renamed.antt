@@ -1,0 +1,145 @@
+-- Records under other names, and contexts that say the same of them. Each step of a chain leads to the same type but for its name, so the
+-- chain ends in the same type.
+use Prim.Native.Nat.{ℕ, zero, suc}
+use mathlib.Core.Path.{_≡_, refl, ap, _∙_}
+use mathlib.Core.Bool.{Bool, true, false, _&&_}
+use mathlib.Core.List.{List, map}
+use mathlib.Core.Option.{Option, some, none}
+use lib.Dec.{eqb}
+use borrow.Author.Tests.{eqb-true}
+use Rattle.rules.specs.Words.{anyOf, member}
+use Rattle.rules.specs.Kind
+use Rattle.rules.specs.Record.{Rec, is}
+use Rattle.rules.specs.Context.{ValidationContext, Declared, declaredAs, behind, chainEnd}
+use Rattle.rules.proofs.Every.{Every, every-as}
+use Rattle.rules.proofs.Mapped.{any-same}
+use Rattle.rules.proofs.Unused.{if-same}
+
+-- the record under another name
+abbrev pub renamed : {M N P : Type 0} → (M → N) → Rec M P → Rec N P
+renamed g r =
+    record {
+      kind = r .kind;
+      sub = r .sub;
+      clean = r .clean;
+      fits = r .fits;
+      name = g (r .name);
+      place = r .place;
+      ordinalPlace = r .ordinalPlace;
+      value = r .value;
+    }
+
+module _ {A : Type 0} where
+  abbrev pub mapOption : {B : Type 0} → (A → B) → Option A → Option B
+  mapOption f none = none
+  mapOption f (some x) = some (f x)
+
+  -- the property holds of what is there
+  abbrev pub Holds : (A → Type 0) → Option A → Type 0
+  Holds Q none = Unit {0}
+  Holds Q (some x) = Q x
+
+-- the declaration with its inner record renamed
+abbrev pub renamedDeclared : {M N P : Type 0} → (M → N) → Declared M P → Declared N P
+renamedDeclared g d = record { sub = d .sub; inner = mapOption (renamed g) (d .inner) }
+
+-- where the record has a name, it is a good one
+abbrev pub WellNamed : {M P : Type 0} → (M → Type 0) → Rec M P → Type 0
+WellNamed Good r = Kind.hasName (r .kind) (r .sub) ≡ true → Good (r .name)
+
+-- the contexts say the same of good names, and good names are declared with well named records
+pub record Agree {M N P : Type 0} (g : M → N) (Good : M → Type 0) (ctx : ValidationContext N P) (ctx′ : ValidationContext M P)
+    : Type 0 where
+  pub declMap : (m : M) → Good m → ctx .declMap (g m) ≡ mapOption (renamedDeclared g) (ctx′ .declMap m)
+  pub inner : (m : M) → Good m → Holds (λ d. Holds (WellNamed Good) (d .inner)) (ctx′ .declMap m)
+  pub importedNames : (m : M) → Good m → ctx .importedNames (g m) ≡ ctx′ .importedNames m
+  pub hasWildcardImport : ctx .hasWildcardImport ≡ ctx′ .hasWildcardImport
+  pub declarations : ctx .declarations ≡ ctx′ .declarations
+  pub same : (m k : M) → Good m → Good k → ctx .same (g m) (g k) ≡ ctx′ .same m k
+  pub word : (m : M) → Good m → ctx .word (g m) ≡ ctx′ .word m
+  pub blank : (m : M) → Good m → ctx .blank (g m) ≡ ctx′ .blank m
+  pub isValidFieldName : (m : M) → Good m → ctx .isValidFieldName (g m) ≡ ctx′ .isValidFieldName m
+
+-- a record of a kind with a name has one
+pub named : {N P : Type 0} (k : ℕ) → member k Kind.withName ≡ true → (r : Rec N P) → is k r ≡ true → Kind.hasName (r .kind) (r .sub) ≡ true
+named k h r e = rw (eqb-true (r .kind) k e, h)
+
+-- the record's name is a good one
+abbrev pub GoodName : {M P : Type 0} → (M → Type 0) → Rec M P → Type 0
+GoodName Good r = Good (r .name)
+
+module _ {M N P : Type 0} {g : M → N} {Good : M → Type 0} {ctx : ValidationContext N P} {ctx′ : ValidationContext M P}
+    (agree : Agree g Good ctx ctx′) where
+  abbrev Well : Rec M P → Type 0
+  Well = WellNamed Good
+
+  -- what is asked of the sub that a name is declared with
+  pub declared-renamed :
+      (ask : ℕ → Bool) (m : M) → Good m →
+      _≡_ {A = Bool} (elim (ctx .declMap (g m)) [ none ↦ false | some d ↦ ask (d .sub) ])
+      (elim (ctx′ .declMap m) [ none ↦ false | some d ↦ ask (d .sub) ])
+  declared-renamed ask m h =
+      ap (λ (o : Option (Declared N P)). elim o as (λ x. Bool) [ none ↦ false | some d ↦ ask (d .sub) ]) (agree .declMap m h)
+      ∙ go (ctx′ .declMap m)
+    where
+      go :
+          (o : Option (Declared M P)) →
+          _≡_ {A = Bool} (elim (mapOption (renamedDeclared g) o) [ none ↦ false | some d ↦ ask (d .sub) ])
+          (elim o [ none ↦ false | some d ↦ ask (d .sub) ])
+      go none = refl
+      go (some d) = refl
+
+  pub as-renamed : (sub : ℕ) (m : M) → Good m → declaredAs ctx sub (g m) ≡ declaredAs ctx′ sub m
+  as-renamed sub = declared-renamed (λ s. eqb s sub)
+
+  -- what a rule asks of a type of that name
+  pub named-renamed :
+      (r : Rec M P) → WellNamed Good r → (ask : N → Bool) (ask′ : M → Bool) → ((m : M) → Good m → ask (g m) ≡ ask′ m) →
+      (is Kind.Named r && ask (g (r .name))) ≡ (is Kind.Named r && ask′ (r .name))
+  unfolding anyOf
+  named-renamed r w ask ask′ e =
+      if-same _&&_ (is Kind.Named r) (ask (g (r .name))) (ask′ (r .name)) refl (λ h. e (r .name) (w (named Kind.Named refl r h)))
+
+  -- the names met so far
+  pub met-renamed :
+      (m : M) → Good m → {names : List M} → Every Good names → anyOf (ctx .same (g m)) (map g names) ≡ anyOf (ctx′ .same m) names
+  met-renamed m h hs = any-same g (ctx .same (g m)) (ctx′ .same m) (every-as (λ k h′. agree .same m k h h′) hs)
+
+  -- chains
+  behind-renamed :
+      (r : Rec M P) → Well r → (behind ctx (renamed g r) ≡ mapOption (renamed g) (behind ctx′ r)) × Holds Well (behind ctx′ r)
+  unfolding behind anyOf
+  behind-renamed r w = go (is Kind.Named r) refl
+    where
+      inner :
+          (o : Option (Declared M P)) →
+          Holds (λ d. Holds Well (d .inner)) o →
+          (_≡_ {A = Option (Rec N P)} (elim (mapOption (renamedDeclared g) o) [ none ↦ none | some d ↦ d .inner ])
+          (mapOption (renamed g) (elim o [ none ↦ none | some d ↦ d .inner ])))
+          × Holds Well (elim o [ none ↦ none | some d ↦ d .inner ])
+      inner none h = (refl, tt)
+      inner (some d) h = (refl, h)
+
+      go :
+          (b : Bool) → is Kind.Named r ≡ b → (behind ctx (renamed g r) ≡ mapOption (renamed g) (behind ctx′ r)) × Holds Well (behind ctx′ r)
+      go true e =
+          let good = w (named Kind.Named refl r e) in
+          rw (e, behind, agree .declMap (r .name) good) (inner (ctx′ .declMap (r .name)) (agree .inner (r .name) good))
+      go false e = rw (e, behind) (refl, tt)
+
+  pub chain-renamed :
+      (n : ℕ) (r : Rec M P) → WellNamed Good r →
+      (chainEnd ctx n (renamed g r) ≡ renamed g (chainEnd ctx′ n r)) × WellNamed Good (chainEnd ctx′ n r)
+  unfolding chainEnd
+  chain-renamed zero r w = (refl, w)
+  chain-renamed (suc n) r w = rw (behind-renamed r w .0, chainEnd) (go (behind ctx′ r) (behind-renamed r w .1) (chain-renamed n))
+    where
+      go :
+          (o : Option (Rec M P)) →
+          Holds Well o →
+          ((t : Rec M P) → Well t → (chainEnd ctx n (renamed g t) ≡ renamed g (chainEnd ctx′ n t)) × Well (chainEnd ctx′ n t)) →
+          (_≡_ {A = Rec N P} (elim (mapOption (renamed g) o) [ none ↦ renamed g r | some t ↦ chainEnd ctx n t ])
+          (renamed g (elim o [ none ↦ r | some t ↦ chainEnd ctx′ n t ])))
+          × Well (elim o [ none ↦ r | some t ↦ chainEnd ctx′ n t ])
+      go none h ih = (refl, w)
+      go (some t) h ih = ih t h
