@@ -2,3 +2,4 @@ pub mod Stores
 pub mod OnePush
 pub mod Pushes
 pub mod Written
+pub mod FoundPushes

@@ -1,12 +1,13 @@
 -- What adding a violation does to the list buffer and to the counts so far, and what adding several does.
 use Prim.Native.Nat.{ℕ, _+_, _*_, _%_, _^_}
 use mathlib.Core.Bool.{Bool, true, false}
-use mathlib.Core.List.{List, [], _∷_, _++_}
+use mathlib.Core.List.{List, [], _∷_, _++_, map}
 use lib.ListN.{length, take, drop}
 use lib.Dec.{eqb, leb}
 use Rattle.rules.specs.declared.answer.Counts.{Counts}
 use Rattle.rules.specs.declared.violation.Violation.{Violation}
-use Rattle.rules.specs.Rule.{error}
+use Rattle.rules.specs.declared.span.Span.{Span}
+use Rattle.rules.specs.Rule.{Found, violation, error}
 use Rattle.rules.specs.Buffer.{encode, violationSize}
 
 -- the bytes of the list buffer, and the counts of the violations so far
@@ -42,3 +43,7 @@ pushAll (v ∷ vs) s = pushAll vs (pushOne v s)
 unfoldable pub pushIf : Bool → Violation → State → State
 pushIf true v s = pushOne v s
 pushIf false v s = s
+
+-- what the rules found is added, each as it is told
+unfoldable pub pushFound : List (Found Span) → State → State
+pushFound fs s = pushAll (map violation fs) s

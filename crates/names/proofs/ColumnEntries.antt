@@ -1,0 +1,98 @@
+-- The parts of the table stand one behind the other, each 1024 numbers long, so an entry of the filled table is worked out from its record.
+use Prim.Native.Nat.{ℕ, zero, suc, _+_, _*_, _<_, _≤_}
+use native.Mathlib.Nat.{zero-add}
+use native.Mathlib.Omega.{arith}
+use mathlib.Core.Path.{_≡_, refl, sym, ap, _∙_}
+use mathlib.Core.List.{List, [], _∷_, _++_, append-assoc}
+use lib.ListN.{length, getD, replicate, length-append, length-take, length-replicate, List·getD-append}
+use lib.Seq.{getD-take, getD-append-add}
+use Rattle.rules.specs.declared.span.Span.{Span}
+use Rattle.rules.specs.Words.{numberIf, anyOf, select}
+use Rattle.rules.specs.Kind
+use Rattle.rules.specs.Record.{Rec, is}
+use Rattle.names.specs.NameTable.{numbered, column, isNamed, idIn, declarationIn, importIn, targetIn, codeOf, tableOf}
+use Rattle.names.specs.View.{entryOf, wildcardOf, declarationsOf}
+use Rattle.names.proofs.Entries.{entry-in}
+
+module _ {A : Type 0} (f : ℕ → A → ℕ) where
+  length-numbered : (k : ℕ) (xs : List A) → length (numbered f k xs) ≡ length xs
+  unfolding numbered
+  length-numbered k [] = refl
+  length-numbered k (x ∷ xs) = ap suc (length-numbered (suc k) xs)
+
+  numbered-at : (k i : ℕ) (xs : List A) (d : A) → i < length xs → getD (numbered f k xs) i 0 ≡ f (k + i) (getD xs i d)
+  unfolding numbered
+  numbered-at k i [] d h = absurd (omega arith)
+  numbered-at k zero (x ∷ xs) d h = let e : k ≡ k + 0 = omega arith in ap (λ n. f n x) e
+  numbered-at k (suc i) (x ∷ xs) d h =
+      let e : suc k + i ≡ k + suc i = omega arith in numbered-at (suc k) i xs d (omega arith) ∙ ap (λ n. f n (getD xs i d)) e
+
+  length-column : (xs : List A) → length (column f xs) ≡ 1024
+  unfolding column
+  length-column xs = simp (length-take, length-append, length-replicate) (omega arith)
+
+  column-at : (xs : List A) (i : ℕ) (d : A) → i < length xs → length xs ≤ 1024 → getD (column f xs) i 0 ≡ f i (getD xs i d)
+  unfolding column
+  column-at xs i d h short =
+      getD-take 1024 (numbered f 0 xs ++ replicate 1024 0) i 0 (omega arith)
+      ∙ List·getD-append (numbered f 0 xs) (replicate 1024 0) 0 i (rw length-numbered h)
+      ∙ numbered-at 0 i xs d h
+      ∙ ap (λ n. f n (getD xs i d)) (zero-add i)
+
+module _ {A : Type 0} where
+  -- a column for each function, and numbers behind them
+  joined : List (ℕ → A → ℕ) → List A → List ℕ → List ℕ
+  joined [] xs ns = ns
+  joined (f ∷ fs) xs ns = column f xs ++ joined fs xs ns
+
+  -- what stands behind a column
+  past : (f : ℕ → A → ℕ) (xs : List A) (ns : List ℕ) (m n : ℕ) → n ≡ 1024 + m → getD (column f xs ++ ns) n 0 ≡ getD ns m 0
+  past f xs ns m n e = rw (e, ← length-column f xs) (getD-append-add (column f xs) ns m 0)
+
+  joined-at :
+      (fs : List (ℕ → A → ℕ)) (xs : List A) (ns : List ℕ) (part i : ℕ) (d : A) → part < length fs → i < length xs → length xs ≤ 1024 →
+      getD (joined fs xs ns) (part * 1024 + i) 0 ≡ getD fs part (λ k x. 0) i (getD xs i d)
+  unfolding joined
+  joined-at [] xs ns part i d b h short = absurd (omega arith)
+  joined-at (f ∷ fs) xs ns zero i d b h short =
+      rw (zero-add i) (List·getD-append (column f xs) (joined fs xs ns) 0 i (rw length-column (omega arith)) ∙ column-at f xs i d h short)
+  joined-at (f ∷ fs) xs ns (suc part) i d b h short =
+      past f xs (joined fs xs ns) (part * 1024 + i) (suc part * 1024 + i) (omega arith) ∙ joined-at fs xs ns part i d (omega arith) h short
+
+  joined-past : (fs : List (ℕ → A → ℕ)) (xs : List A) (ns : List ℕ) (m : ℕ) → getD (joined fs xs ns) (length fs * 1024 + m) 0 ≡ getD ns m 0
+  unfolding joined
+  joined-past [] xs ns m = rw (zero-add m)
+  joined-past (f ∷ fs) xs ns m =
+      past f xs (joined fs xs ns) (length fs * 1024 + m) (suc (length fs) * 1024 + m) (omega arith) ∙ joined-past fs xs ns m
+
+module _ (rs : List (Rec (List ℕ) Span)) where
+  -- what each part of the table says of a record
+  abbrev pub parts : List (ℕ → Rec (List ℕ) Span → ℕ)
+  parts =
+      idIn rs
+      ∷ (λ i r. declarationIn rs r)
+      ∷ (λ i r. importIn rs r)
+      ∷ (λ i r. targetIn rs r)
+      ∷ (λ i r. numberIf (isNamed r) (codeOf (r .name)))
+      ∷ []
+
+  -- the numbers behind the parts
+  abbrev counts : List ℕ
+  counts = numberIf (anyOf (is Kind.Wildcard) rs) 1 ∷ length (select (is Kind.Declaration) rs) ∷ []
+
+  table-joined : tableOf rs ≡ joined parts rs counts
+  unfolding tableOf joined
+  table-joined = simp append-assoc
+
+  pub wildcard-entry : wildcardOf (tableOf rs) ≡ numberIf (anyOf (is Kind.Wildcard) rs) 1
+  wildcard-entry = rw table-joined (joined-past parts rs counts 0)
+
+  pub declarations-entry : declarationsOf (tableOf rs) ≡ length (select (is Kind.Declaration) rs)
+  declarations-entry = rw table-joined (joined-past parts rs counts 1)
+
+  -- the entry of a part for a record that the table has
+  pub entry-at :
+      (part i : ℕ) (d : Rec (List ℕ) Span) → part < 5 → i < length rs → length rs ≤ 1024 →
+      entryOf part (tableOf rs) i ≡ getD parts part (λ k r. 0) i (getD rs i d)
+  entry-at part i d b h short =
+      sym (entry-in part i (tableOf rs) (omega arith)) ∙ rw table-joined (joined-at parts rs counts part i d b h short)

@@ -1,0 +1,16 @@
+pub mod Same
+pub mod Known
+pub mod Places
+pub mod Found
+pub mod Columns
+pub mod Filled
+pub mod Codes
+pub mod Numbers
+pub mod Targets
+pub mod Table
+pub mod Entries
+pub mod CodeEntries
+pub mod FirstPlaces
+pub mod ColumnEntries
+pub mod Lookups
+pub mod Renamed

@@ -1,0 +1,272 @@
+-- Record i of the view is record i of the sheet, with its index for a name; and the table answers at that index what the context answers of
+-- the name. So the rules find the same list through the table.
+use Prim.Native.Nat.{ℕ, zero, suc, _+_, _-_, _*_, _/_, _%_, _<_, _≤_}
+use native.Mathlib.Nat.{sub-zero}
+use native.Mathlib.Decide.{decLt}
+use native.Mathlib.Numerals.{add-one}
+use native.Mathlib.Omega.{arith}
+use mathlib.Core.Path.{_≡_, refl, sym, ap, ap₂, _∙_}
+use mathlib.Core.Bool.{Bool, true, false, not, _&&_, _||_}
+use mathlib.Core.List.{List, [], _∷_, map}
+use mathlib.Core.Option.{Option, some, none}
+use lib.ListN.{length, getD, drop, drop-of-length-le}
+use lib.Seq.{drop-drop, take-all}
+use lib.Dec.{eqb}
+use Rattle.rules.specs.declared.span.Span.{Span}
+use Rattle.rules.specs.Words.{within, numberIf, anyOf, sameBytes, lookUp}
+use Rattle.rules.specs.Kind
+use Rattle.rules.specs.Sub
+use Rattle.rules.specs.Record.{Rec, is, recordSize, recordBytes, isNamedIn, fitsIn, nameIn, subIn, decode, pieces, records}
+use Rattle.rules.specs.Context.{Declared, contextOf, declared, innerOf}
+use Rattle.rules.specs.Bodies.{violationsOf}
+use Rattle.rules.specs.Answer.{isAccepted, foundIn}
+use Rattle.rules.proofs.Every.{Every, every-nil, every-cons, every-at}
+use Rattle.rules.proofs.Records.{length-records, records-at, records-drop, records-end}
+use Rattle.rules.proofs.AcceptedSheet.{accepted-length, accepted-whole, accepted-fits}
+use Rattle.rules.proofs.Renamed.{renamed, mapOption, Holds, renamedDeclared, WellNamed, Agree}
+use Rattle.rules.proofs.RenamedBodies.{violations-renamed}
+use Rattle.names.specs.NameTable.{placeOf, isNamed, idIn, targetAt, targetIn, codeOf, nameTable, tableOf}
+use Rattle.names.specs.View.{viewAt, viewFrom, viewOf, entryOf, idPart, declarationPart, importPart, targetPart, codePart, declaredBy, contextBy}
+use Rattle.names.proofs.CodeEntries.{code-word, code-blank, code-valid}
+use Rattle.names.proofs.FirstPlaces.{place-passes}
+use Rattle.names.proofs.ColumnEntries.{parts, entry-at, wildcard-entry, declarations-entry}
+use Rattle.names.proofs.Lookups.{tested, bears, declaration-place, import-says, declaredFirst, declared-place, id-same}
+
+-- the name of record i
+abbrev pub nameAt : List ℕ → List ℕ → ℕ → List ℕ
+nameAt sheet names i = nameIn names (recordBytes sheet i)
+
+-- record i has a name
+abbrev pub HasName : List ℕ → ℕ → Type 0
+HasName sheet i = isNamedIn (recordBytes sheet i) ≡ true
+
+-- a record that fits is its view under its name
+decode-view :
+    (sheet names : List ℕ) (i : ℕ) → fitsIn names (recordBytes sheet i) ≡ true →
+    decode names (recordBytes sheet i) ≡ renamed (nameAt sheet names) (viewAt sheet i)
+unfolding decode viewAt
+decode-view sheet names i fits =
+    let r : Rec (List ℕ) Span = decode names (recordBytes sheet i) in
+    λ t. record {
+      kind = r .kind;
+      sub = r .sub;
+      clean = r .clean;
+      fits = fits t;
+      name = r .name;
+      place = r .place;
+      ordinalPlace = r .ordinalPlace;
+      value = r .value;
+    }
+
+-- the records from record i on
+pieces-view :
+    (sheet names : List ℕ) (i n : ℕ) → ((j : ℕ) → j < i + n → fitsIn names (recordBytes sheet j) ≡ true) →
+    map (decode names) (pieces n (drop (32 * i) sheet)) ≡ map (renamed (nameAt sheet names)) (viewFrom sheet i n)
+unfolding pieces viewFrom
+pieces-view sheet names i zero fits = refl
+pieces-view sheet names i (suc n) fits =
+    let next : 32 * i + 32 ≡ 32 * suc i = omega arith in
+    let moved = drop-drop 32 (32 * i) sheet ∙ ap (λ at. drop at sheet) next in
+    ap₂ _∷_ (decode-view sheet names i (fits i (omega arith)))
+    (ap (λ s. map (decode names) (pieces n s)) moved ∙ pieces-view sheet names (suc i) n (λ j h. fits j (omega arith)))
+
+view-well : (sheet : List ℕ) (i n : ℕ) → Every (WellNamed (HasName sheet)) (viewFrom sheet i n)
+unfolding viewFrom viewAt
+view-well sheet i zero = every-nil
+view-well sheet i (suc n) = every-cons {x = viewAt sheet i} (λ h. h) (view-well sheet (suc i) n)
+
+-- past the last record there is none with a name
+named-within : (sheet : List ℕ) (i : ℕ) → length sheet % 32 ≡ 0 → HasName sheet i → i < length sheet / 32
+unfolding subIn lookUp anyOf
+named-within sheet i whole h = go (decLt i (length sheet / 32))
+  where
+    go : Dec (i < length sheet / 32) → i < length sheet / 32
+    go (yes l) = l
+    go (no g) =
+        let empty = drop-of-length-le sheet {i = 32 * i} (omega arith) in
+        let z : _≡_ {A = ℕ} 0 1 = cc (rw empty at h) in omega arith
+
+-- the type at a place
+abbrev innerAt : List ℕ → ℕ → Option (Rec ℕ Span)
+innerAt sheet target = elim target [ zero ↦ none | suc t ↦ some (viewAt sheet t) ]
+
+-- a declaration of the view, by the places of its record and of its type
+abbrev declaredAt : List ℕ → ℕ → ℕ → Option (Declared ℕ Span)
+declaredAt sheet declaration target =
+    elim declaration [
+      | zero ↦ none
+      | suc d ↦ some (record {
+        sub = subIn (recordBytes sheet d);
+        inner = innerAt sheet target;
+      })
+    ]
+
+declared-well :
+    (sheet : List ℕ) (declaration target : ℕ) →
+    Holds (λ d. Holds (WellNamed (HasName sheet)) (d .inner)) (declaredAt sheet declaration target)
+unfolding viewAt
+declared-well sheet zero target = tt
+declared-well sheet (suc d) zero = tt
+declared-well sheet (suc d) (suc t) = λ h. h
+
+-- the place of the type of the declaration at a place
+abbrev targetFrom : List (Rec (List ℕ) Span) → ℕ → ℕ
+targetFrom rs place = elim place [ zero ↦ 0 | suc n ↦ targetAt (suc n) (drop n rs) ]
+
+module _ (sheet names : List ℕ) (accepted : isAccepted sheet names ≡ true) where
+  fits-at : (i : ℕ) → i < length sheet / 32 → fitsIn names (recordBytes sheet i) ≡ true
+  unfolding decode
+  fits-at i h =
+      let d : Rec (List ℕ) Span = decode names [] in
+      rw (records-at sheet names i d h) at (every-at (accepted-fits sheet names accepted) d i (rw length-records h))
+
+  -- the records of an accepted sheet are those of the view, each under its name
+  pub records-renamed : records sheet names ≡ map (renamed (nameAt sheet names)) (viewOf sheet 0 (length sheet / recordSize))
+  unfolding records
+  records-renamed = rw (sub-zero (length sheet / 32)) (pieces-view sheet names 0 (length sheet / 32) (λ j h. fits-at j (omega arith)))
+
+  abbrev rs : List (Rec (List ℕ) Span)
+  rs = records sheet names
+
+  abbrev recordAt : ℕ → Rec (List ℕ) Span
+  recordAt i = decode names (recordBytes sheet i)
+
+  -- what stands for a record past the last
+  abbrev nobody : Rec (List ℕ) Span
+  nobody = decode names []
+
+  -- the table has room for every record
+  short : length rs ≤ 1024
+  short = rw length-records (omega (arith, accepted-length sheet names accepted))
+
+  table-whole : nameTable sheet names ≡ tableOf rs
+  unfolding nameTable
+  table-whole = ap tableOf (take-all 1024 rs short)
+
+  -- what the table says of a record with a name
+  module _ (i : ℕ) (has : HasName sheet i) where
+    inside : i < length sheet / 32
+    inside = named-within sheet i (accepted-whole sheet names accepted) has
+
+    named-at : isNamed (recordAt i) ≡ true
+    unfolding decode
+    named-at = rw (has, fits-at i inside)
+
+    at-place : getD rs i nobody ≡ recordAt i
+    at-place = records-at sheet names i nobody inside
+
+    entry : (part : ℕ) → part < 5 → entryOf part (tableOf rs) i ≡ getD (parts rs) part (λ k r. 0) i (recordAt i)
+    entry part b = entry-at rs part i nobody b (rw length-records inside) short ∙ ap (getD (parts rs) part (λ k r. 0) i) at-place
+
+    code-entry : entryOf codePart (tableOf rs) i ≡ codeOf (nameAt sheet names i)
+    unfolding decode
+    code-entry = entry codePart (omega arith) ∙ ap (λ b. numberIf b (codeOf (nameAt sheet names i))) named-at
+
+    import-entry : anyOf (bears Kind.ImportedName (nameAt sheet names i)) rs ≡ not (eqb (entryOf importPart (tableOf rs) i) 0)
+    unfolding decode
+    import-entry =
+        import-says rs (accepted-fits sheet names accepted) (recordAt i) named-at
+        ∙ ap (λ (n : ℕ). not (eqb n 0)) (sym (entry importPart (omega arith)))
+
+    declaration-entry : entryOf declarationPart (tableOf rs) i ≡ placeOf (bears Kind.Declaration (nameAt sheet names i)) rs
+    unfolding decode
+    declaration-entry =
+        entry declarationPart (omega arith) ∙ declaration-place rs (accepted-fits sheet names accepted) (recordAt i) named-at
+
+    target-entry : entryOf targetPart (tableOf rs) i ≡ targetFrom rs (placeOf (bears Kind.Declaration (nameAt sheet names i)) rs)
+    unfolding targetIn decode
+    target-entry =
+        entry targetPart (omega arith)
+        ∙ ap (targetFrom rs) (declaration-place rs (accepted-fits sheet names accepted) (recordAt i) named-at)
+
+  same-entry :
+      (a b : ℕ) → HasName sheet a → HasName sheet b →
+      sameBytes (nameAt sheet names a) (nameAt sheet names b) ≡ eqb (entryOf idPart (tableOf rs) a) (entryOf idPart (tableOf rs) b)
+  unfolding decode
+  same-entry a b ha hb =
+      ap₂ (λ (r q : Rec (List ℕ) Span). sameBytes (r .name) (q .name)) (sym (at-place a ha)) (sym (at-place b hb))
+      ∙ id-same rs nobody a b (in-records a ha) (in-records b hb) (rw (at-place a ha) (named-at a ha)) (rw (at-place b hb) (named-at b hb))
+      ∙ ap₂ eqb (id-entry a ha) (id-entry b hb)
+    where
+      in-records : (i : ℕ) → HasName sheet i → i < length rs
+      in-records i has = rw length-records (inside i has)
+
+      id-entry : (i : ℕ) → HasName sheet i → idIn rs i (getD rs i nobody) ≡ entryOf idPart (tableOf rs) i
+      id-entry i has = sym (entry-at rs idPart i nobody (omega arith) (in-records i has) short)
+
+  drop-at : (i : ℕ) → i < length sheet / 32 → drop i rs ≡ recordAt i ∷ drop (suc i) rs
+  drop-at i h = records-drop sheet names i h ∙ ap (λ n. recordAt i ∷ drop n rs) (add-one i)
+
+  -- the type of a declaration is the record directly after it
+  inner-at :
+      (k : ℕ) →
+      innerOf (recordAt k .sub) (drop (suc k) rs)
+      ≡ mapOption (renamed (nameAt sheet names)) (innerAt sheet (targetAt (suc k) (recordAt k ∷ drop (suc k) rs)))
+  inner-at k = go (decLt (suc k) (length sheet / 32))
+    where
+      by-test :
+          (b : Bool) → suc k < length sheet / 32 →
+          _≡_ {A = Option (Rec (List ℕ) Span)} (elim b [ true ↦ some (recordAt (suc k)) | false ↦ none ])
+          (mapOption (renamed (nameAt sheet names)) (innerAt sheet (numberIf b (suc (suc k)))))
+      by-test true l = ap some (decode-view sheet names (suc k) (fits-at (suc k) l))
+      by-test false l = refl
+
+      go : Dec (suc k < length sheet / 32) →
+          innerOf (recordAt k .sub) (drop (suc k) rs)
+          ≡ mapOption (renamed (nameAt sheet names)) (innerAt sheet (targetAt (suc k) (recordAt k ∷ drop (suc k) rs)))
+      go (yes l) = rw (drop-at (suc k) l) (by-test (eqb (recordAt k .sub) Sub.Newtype && Kind.isType (recordAt (suc k) .kind)) l)
+      go (no g) = rw (records-end sheet names (suc k) (omega arith))
+
+  declared-at :
+      (k : ℕ) → k < length sheet / 32 →
+      declaredFirst (drop k rs) ≡ mapOption (renamedDeclared (nameAt sheet names)) (declaredAt sheet (suc k) (targetAt (suc k) (drop k rs)))
+  unfolding decode
+  declared-at k h = rw (drop-at k h) (λ i. some (record { sub = subIn (recordBytes sheet k); inner = inner-at k i }))
+
+  declared-entry :
+      (m : ℕ) → HasName sheet m →
+      declared rs (nameAt sheet names m) ≡ mapOption (renamedDeclared (nameAt sheet names)) (declaredBy (tableOf rs) sheet m)
+  unfolding declaredBy
+  declared-entry m h =
+      declared-place rs (nameAt sheet names m)
+      ∙ go (placeOf (bears Kind.Declaration (nameAt sheet names m)) rs) refl
+      ∙ ap (mapOption (renamedDeclared (nameAt sheet names)))
+      (λ i. declaredAt sheet (sym (declaration-entry m h) i) (sym (target-entry m h) i))
+    where
+      go :
+          (place : ℕ) →
+          placeOf (bears Kind.Declaration (nameAt sheet names m)) rs ≡ place →
+          _≡_ {A = Option (Declared (List ℕ) Span)} (elim place [ zero ↦ none | suc k ↦ declaredFirst (drop k rs) ])
+          (mapOption (renamedDeclared (nameAt sheet names)) (declaredAt sheet place (targetFrom rs place)))
+      go zero e = refl
+      go (suc k) e =
+          let l = place-passes (bears Kind.Declaration (nameAt sheet names m)) nobody rs k e .0 in
+          declared-at k (rw length-records at l)
+
+  agree : Agree (nameAt sheet names) (HasName sheet) (contextOf rs) (contextBy (tableOf rs) sheet)
+  unfolding contextOf contextBy declaredBy
+  agree =
+      record {
+        declMap = declared-entry;
+        inner = λ m h. declared-well sheet (entryOf declarationPart (tableOf rs) m) (entryOf targetPart (tableOf rs) m);
+        importedNames = import-entry;
+        hasWildcardImport = sym (tested (anyOf (is Kind.Wildcard) rs)) ∙ ap (λ (n : ℕ). not (eqb n 0)) (sym (wildcard-entry rs));
+        declarations = sym (declarations-entry rs);
+        same = same-entry;
+        word = λ m h. code-word (nameAt sheet names m) ∙ ap (λ (c : ℕ). numberIf (within 1 7 c) c) (sym (code-entry m h));
+        blank = λ m h. code-blank (nameAt sheet names m) ∙ ap (λ (c : ℕ). eqb c 8) (sym (code-entry m h));
+        isValidFieldName =
+            λ m h. code-valid (nameAt sheet names m) ∙ ap (λ (c : ℕ). within 1 7 c || eqb c 9) (sym (code-entry m h));
+      }
+
+  -- the table says of the index of a record with a name what the context says of the name
+  pub contexts-agree :
+      Agree (nameAt sheet names) (HasName sheet) (contextOf (records sheet names)) (contextBy (nameTable sheet names) sheet)
+  contexts-agree = rw table-whole agree
+
+  -- the table gives the list
+  pub table-list : violationsOf (contextBy (nameTable sheet names) sheet) (viewOf sheet 0 (length sheet / recordSize)) ≡ foundIn sheet names
+  unfolding foundIn
+  table-list =
+      sym (violations-renamed contexts-agree (view-well sheet 0 (length sheet / recordSize - 0)))
+      ∙ ap (violationsOf (contextOf (records sheet names))) (sym records-renamed)

@@ -1,0 +1,49 @@
+-- Two names compared byte by byte: as long as the bytes agree, the names are the same just if what follows is.
+use Prim.Native.Nat.{ℕ, zero, suc, _+_, _≤_}
+use mathlib.Core.Path.{_≡_, refl, _∙_, ap}
+use mathlib.Core.Bool.{true, false, and-false}
+use mathlib.Core.List.{List, [], _∷_}
+use native.Mathlib.Omega.{arith}
+use lib.ListN.{length, getD, drop, drop-of-length-le}
+use lib.Seq.{drop-nil}
+use borrow.Author.Tests.{eq-eqb, ne-eqb}
+use Rattle.rules.specs.Words.{sameBytes}
+
+-- names of different lengths differ
+pub lengths-differ : (a b : List ℕ) → (length a ≡ length b → ⊥) → false ≡ sameBytes a b
+unfolding sameBytes
+lengths-differ [] [] h = absurd (h refl)
+lengths-differ [] (y ∷ b) h = refl
+lengths-differ (x ∷ a) [] h = refl
+lengths-differ (x ∷ a) (y ∷ b) h = rw (← lengths-differ a b (λ e. h (ap suc e)), and-false)
+
+-- names with different bytes at a place differ
+differ-at : (a b : List ℕ) (i : ℕ) → (getD a i 0 ≡ getD b i 0 → ⊥) → false ≡ sameBytes a b
+unfolding sameBytes
+differ-at [] [] i d = absurd (d refl)
+differ-at [] (y ∷ b) i d = refl
+differ-at (x ∷ a) [] i d = refl
+differ-at (x ∷ a) (y ∷ b) zero d = rw (ne-eqb x y d)
+differ-at (x ∷ a) (y ∷ b) (suc i) d = rw (← differ-at a b i d, and-false)
+
+-- where the bytes at a place agree, the next place decides
+next-decides : (a b : List ℕ) (i : ℕ) → length a ≡ length b → getD a i 0 ≡ getD b i 0 → sameBytes (drop i a) (drop i b) ≡ sameBytes (drop (i + 1) a) (drop (i + 1) b)
+unfolding sameBytes
+next-decides [] [] i l e = simp drop-nil
+next-decides [] (y ∷ b) i l e = absurd (omega arith)
+next-decides (x ∷ a) [] i l e = absurd (omega arith)
+next-decides (x ∷ a) (y ∷ b) zero l e = rw (eq-eqb x y e)
+next-decides (x ∷ a) (y ∷ b) (suc i) l e =
+    let next : suc i + 1 ≡ suc (i + 1) = omega arith in
+    rw next (next-decides a b i (omega arith) e)
+
+module _ (a b : List ℕ) (i : ℕ) (l : length a ≡ length b) (same : sameBytes a b ≡ sameBytes (drop i a) (drop i b)) where
+  pub bytes-differ : (getD a i 0 ≡ getD b i 0 → ⊥) → false ≡ sameBytes a b
+  bytes-differ = differ-at a b i
+
+  pub bytes-agree : getD a i 0 ≡ getD b i 0 → sameBytes a b ≡ sameBytes (drop (i + 1) a) (drop (i + 1) b)
+  bytes-agree e = same ∙ next-decides a b i l e
+
+  pub all-agree : length a ≤ i → true ≡ sameBytes a b
+  unfolding sameBytes
+  all-agree h = rw (same, drop-of-length-le a {i = i} h, drop-of-length-le b {i = i} (omega arith))

@@ -1,0 +1,3 @@
+pub mod NameTable
+pub mod Parts
+pub mod View

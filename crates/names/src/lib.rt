@@ -1,0 +1,23 @@
+// The table of names: what the rules ask of the name of each record, worked out once.
+mod compare;
+mod count;
+mod declared;
+mod ids;
+mod imports;
+mod layout;
+mod lookup;
+mod parts;
+mod values;
+mod whole;
+mod words;
+
+pub use compare::same_bytes;
+pub use lookup::code;
+pub use lookup::declaration;
+pub use lookup::declarations;
+pub use lookup::has_wildcard;
+pub use lookup::id;
+pub use lookup::is_imported;
+pub use lookup::target;
+pub use whole::fill;
+pub use words::name_code;
