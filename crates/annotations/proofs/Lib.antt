@@ -1,0 +1,9 @@
+pub mod Views
+pub mod WordCodes
+pub mod FoundSteps
+pub mod Repeats
+pub mod Reasons
+pub mod FirstWith
+pub mod Limits
+pub mod OneAnnotation
+pub mod Fields

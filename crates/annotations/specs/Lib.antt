@@ -1,0 +1,5 @@
+pub mod AnnotationAt
+pub mod Each
+pub mod Earlier
+pub mod FirstWith
+pub mod LimitViolations

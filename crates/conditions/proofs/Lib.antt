@@ -1,0 +1,11 @@
+pub mod Told
+pub mod Constants
+pub mod OperandRules
+pub mod OperatorRule
+pub mod FirstRecords
+pub mod ConditionOperands
+pub mod FieldLiterals
+pub mod EachRecord
+pub mod NodeParts
+pub mod NodeKinds
+pub mod WholeCondition

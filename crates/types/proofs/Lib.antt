@@ -1,0 +1,11 @@
+pub mod BitNames
+pub mod Chain
+pub mod Declarations
+pub mod Keys
+pub mod Known
+pub mod Optionals
+pub mod OwnKinds
+pub mod OwnRules
+pub mod Stack
+pub mod Views
+pub mod Walk

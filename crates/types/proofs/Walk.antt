@@ -1,0 +1,107 @@
+-- The types of a type are walked record by record: what is found at a record comes first, and then what is found with the tests after it.
+use Prim.Native.Nat.{ℕ, zero, suc, _+_, _<_, _≤_}
+use mathlib.Core.Path.{_≡_, refl, sym, _∙_}
+use mathlib.Core.Bool.{Bool, true, false, and-false, and-true}
+use mathlib.Core.List.{List, [], _∷_, _++_}
+use native.Mathlib.Omega.{arith}
+use lib.ListN.{replicate}
+use borrow.Author.Tests.{eq-eqb, ne-eqb}
+use Rattle.rules.specs.declared.span.Span.{Span}
+use Rattle.rules.specs.Kind
+use Rattle.rules.specs.Record.{Rec, is, recordBytes, kindIn}
+use Rattle.rules.specs.Context.{ValidationContext}
+use Rattle.rules.specs.Types.{ownTypeViolations, typesViolations}
+use Rattle.diagnostic.specs.Push.{State, pushFound}
+use Rattle.diagnostic.proofs.FoundPushes.{found-append, found-none}
+use Rattle.names.specs.View.{viewAt, viewOf, contextBy}
+use Rattle.types.specs.declared.field_type.Due.{Due}
+use Rattle.types.specs.Due.{stackOf, stackAfter, isChecked, turnFound}
+use Rattle.types.proofs.Views.{view-cons, view-none}
+
+module _ (ctx : ValidationContext ℕ Span) where
+  -- where nothing is due, or no record is left, nothing is found
+  nothing-due : (rs : List (Rec ℕ Span)) → typesViolations ctx [] rs ≡ []
+  unfolding typesViolations
+  nothing-due [] = refl
+  nothing-due (t ∷ rs) = refl
+
+  nothing-left : (tests : List Bool) → typesViolations ctx tests [] ≡ []
+  unfolding typesViolations
+  nothing-left [] = refl
+  nothing-left (test ∷ tests) = refl
+
+  at-record : (test : Bool) (tests : List Bool) (t : Rec ℕ Span) (rs : List (Rec ℕ Span)) (bit : Bool) → is Kind.BitName t ≡ bit →
+      typesViolations ctx (test ∷ tests) (t ∷ rs) ≡ turnFound ctx (test ∷ tests) t rs ++ typesViolations ctx (stackAfter (test ∷ tests) (t .kind)) rs
+  unfolding typesViolations turnFound stackAfter
+  at-record test tests t rs true h = rw (typesViolations, turnFound, stackAfter, h, and-false)
+  at-record test tests t rs false h = rw (typesViolations, turnFound, stackAfter, h, and-true)
+
+  -- one record after the other
+  turn : (tests : List Bool) (t : Rec ℕ Span) (rs : List (Rec ℕ Span)) →
+      typesViolations ctx tests (t ∷ rs) ≡ turnFound ctx tests t rs ++ typesViolations ctx (stackAfter tests (t .kind)) rs
+  unfolding turnFound stackAfter typesViolations
+  turn [] t rs = sym (nothing-due rs)
+  turn (test ∷ tests) t rs = at-record test tests t rs (is Kind.BitName t) refl
+
+-- the next type is skipped if any is, and else checked if any is
+skips : (p c : ℕ) → 0 < p → isChecked (replicate p false ++ replicate c true) ≡ false
+skips zero c h = absurd (omega arith)
+skips (suc p) c h = refl
+
+checks : (c : ℕ) → (c ≡ 0 → ⊥) → isChecked (replicate c true) ≡ true
+checks zero h = absurd (h refl)
+checks (suc c) h = refl
+
+module _ (ctx : ValidationContext ℕ Span) (sheet : List ℕ) (due : Due) (i a e : ℕ) (s : State) where
+  -- nothing is told of a skipped type, past the type's end, or at a bit name; and the type's own rules else
+  pub turn-skipped : 0 < due .skipped → s ≡ pushFound (turnFound ctx (stackOf due) (viewAt sheet i) (viewOf sheet a e)) s
+  unfolding turnFound stackOf
+  turn-skipped h = rw (skips (due .skipped) (due .checked) h) (sym (found-none s))
+
+  pub turn-none : due .skipped ≤ 0 → due .checked ≡ 0 → s ≡ pushFound (turnFound ctx (stackOf due) (viewAt sheet i) (viewOf sheet a e)) s
+  unfolding turnFound stackOf
+  turn-none none h =
+      let z : due .skipped ≡ 0 = omega arith in
+      rw (z, h) (sym (found-none s))
+
+  pub turn-bit : (k : ℕ) → k ≡ kindIn (recordBytes sheet i) → k ≡ Kind.BitName → s ≡ pushFound (turnFound ctx (stackOf due) (viewAt sheet i) (viewOf sheet a e)) s
+  unfolding turnFound viewAt
+  turn-bit k kind bit = rw (eq-eqb (kindIn (recordBytes sheet i)) Kind.BitName (sym kind ∙ bit), and-false) (sym (found-none s))
+
+  pub turn-checked :
+      (k : ℕ) (t : State) → due .skipped ≤ 0 → (due .checked ≡ 0 → ⊥) → k ≡ kindIn (recordBytes sheet i) → (k ≡ Kind.BitName → ⊥) →
+      t ≡ pushFound (ownTypeViolations ctx (viewAt sheet i) (viewOf sheet a e)) s →
+      t ≡ pushFound (turnFound ctx (stackOf due) (viewAt sheet i) (viewOf sheet a e)) s
+  unfolding turnFound stackOf viewAt
+  turn-checked k t none some kind type push =
+      let z : due .skipped ≡ 0 = omega arith in
+      rw (z, checks (due .checked) some, ne-eqb (kindIn (recordBytes sheet i)) Kind.BitName (λ q. type (kind ∙ q))) push
+
+module _ (table sheet : List ℕ) (e : ℕ) (all : State) where
+  -- what is found from record i on adds to a state what is found in all
+  abbrev pub TypesLeft : ℕ → Due → State → Type 0
+  TypesLeft i due s = pushFound (typesViolations (contextBy table sheet) (stackOf due) (viewOf sheet i e)) s ≡ all
+
+  module _ (i : ℕ) (due : Due) (s t : State) (left : TypesLeft i due s) (h : i < e) (push : t ≡ pushFound (turnFound (contextBy table sheet) (stackOf due) (viewAt sheet i) (viewOf sheet (i + 1) e)) s) where
+    on : pushFound (typesViolations (contextBy table sheet) (stackAfter (stackOf due) (kindIn (recordBytes sheet i))) (viewOf sheet (i + 1) e)) t ≡ all
+    unfolding viewAt
+    on =
+        rw push
+        (sym (found-append _ _ s)
+        ∙ rw (view-cons sheet i e h, turn (contextBy table sheet) (stackOf due) (viewAt sheet i) (viewOf sheet (i + 1) e)) at left)
+
+    pub types-next : (k : ℕ) (next : Due) → k ≡ kindIn (recordBytes sheet i) → stackOf next ≡ stackAfter (stackOf due) k → TypesLeft (i + 1) next t
+    types-next k next kind after = rw (after, kind) on
+
+    pub types-last : i + 1 ≡ e → t ≡ all
+    types-last last =
+        sym (found-none t) ∙ rw (view-none sheet (i + 1) e (omega arith), nothing-left) at on
+
+  pub types-end : (i : ℕ) (due : Due) (s : State) → TypesLeft i due s → e ≤ i → s ≡ all
+  types-end i due s left h = sym (found-none s) ∙ rw (view-none sheet i e h, nothing-left) at left
+
+pub types-start :
+    (table sheet : List ℕ) (a e : ℕ) (s : State) →
+    TypesLeft table sheet e (pushFound (typesViolations (contextBy table sheet) (true ∷ []) (viewOf sheet a e)) s) a (record { skipped = 0; checked = 1 }) s
+unfolding stackOf
+types-start table sheet a e s = refl

@@ -1,0 +1,4 @@
+pub mod Collection
+pub mod Due
+pub mod Key
+pub mod Own
