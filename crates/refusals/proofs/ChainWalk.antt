@@ -1,0 +1,159 @@
+-- A chain is walked a step at a time: after each step as many are left as the definition has still to take.
+use Prim.Native.Nat.{ℕ, zero, suc, _+_, _-_, _/_, _<_, _≤_}
+use native.Mathlib.Omega.{arith}
+use native.Mathlib.Numerals.{add-one}
+use mathlib.Core.Path.{_≡_, refl, sym, ap, _∙_}
+use mathlib.Core.Bool.{Bool, true, false, not, _&&_}
+use mathlib.Core.List.{List, [], _∷_}
+use mathlib.Core.Option.{Option, some, none}
+use lib.ListN.{length}
+use lib.Dec.{eqb}
+use borrow.Author.Tests.{ne-eqb, eq-eqb}
+use Rattle.rules.specs.declared.span.Span.{Span}
+use Rattle.rules.specs.Record.{Rec, isOf, recordBytes, kindIn, subIn}
+use Rattle.rules.specs.Context.{Declared, ValidationContext, behind, chainEnd, neverEnds}
+use Rattle.rules.specs.Refusals.{Fault, leadsNowhere, endlessChain}
+use Rattle.rules.proofs.Chains.{isSome, goesOn}
+use Rattle.names.specs.View.{viewAt, viewFrom, viewOf, entryOf, declarationPart, targetPart, declarationsOf, declaredBy, contextBy}
+use Rattle.refusals.specs.Turned.{placed, endlessBy}
+
+-- the records of a view
+view-cons : (sheet : List ℕ) (a e : ℕ) → a < e → viewOf sheet a e ≡ viewAt sheet a ∷ viewOf sheet (a + 1) e
+unfolding viewFrom
+view-cons sheet a e h =
+    let more : e - a ≡ suc (e - (a + 1)) = omega arith in
+    rw (more, viewFrom, add-one)
+
+view-end : (sheet : List ℕ) (a e : ℕ) → e ≤ a → viewOf sheet a e ≡ []
+unfolding viewFrom
+view-end sheet a e h = let none : e - a ≡ 0 = omega arith in rw none
+
+module _ (table sheet : List ℕ) where
+  abbrev ctx : ValidationContext ℕ Span
+  ctx = contextBy table sheet
+
+  abbrev behindOf : Option (Declared ℕ Span) → Bool → Option (Rec ℕ Span)
+  behindOf o b = elim b [ true ↦ elim o [ none ↦ none | some d ↦ d .inner ] | false ↦ none ]
+
+  module _ (t k : ℕ) (hk : k ≡ kindIn (recordBytes sheet t)) where
+    behind-as : (b : Bool) → eqb k 33 ≡ b → behind ctx (viewAt sheet t) ≡ behindOf (declaredBy table sheet t) b
+    unfolding behind contextBy viewAt
+    behind-as b e = ap (behindOf (declaredBy table sheet t)) (ap (λ (x : ℕ). eqb x 33) (sym hk) ∙ e)
+
+    pub behind-other : (k ≡ 33 → ⊥) → placed sheet 0 ≡ behind ctx (viewAt sheet t)
+    behind-other n = sym (behind-as false (ne-eqb k 33 n))
+
+    module _ (named : k ≡ 33) (d : ℕ) (hd : d ≡ entryOf declarationPart table t) where
+      declared-none : d ≡ 0 → declaredBy table sheet t ≡ none
+      unfolding declaredBy
+      declared-none z = rw (sym hd ∙ z, declaredBy)
+
+      pub behind-undeclared : d ≡ 0 → placed sheet 0 ≡ behind ctx (viewAt sheet t)
+      behind-undeclared z = sym (behind-as true (eq-eqb k 33 named) ∙ ap (λ (o : Option (Declared ℕ Span)). behindOf o true) (declared-none z))
+
+      inner-of : (e : ℕ) → entryOf declarationPart table t ≡ e → (e ≡ 0 → ⊥)
+          → behindOf (declaredBy table sheet t) true ≡ elim (entryOf targetPart table t) [ zero ↦ none | suc i ↦ some (viewAt sheet i) ]
+      unfolding declaredBy
+      inner-of zero e n = absurd (n refl)
+      inner-of (suc m) e n = rw (e, declaredBy)
+
+      same-place : (p : ℕ) → placed sheet p ≡ elim p [ zero ↦ none | suc i ↦ some (viewAt sheet i) ]
+      same-place zero = refl
+      same-place (suc i) = refl
+
+      pub behind-target : (r : ℕ) → (d ≡ 0 → ⊥) → r ≡ entryOf targetPart table t → placed sheet r ≡ behind ctx (viewAt sheet t)
+      behind-target r n hr =
+          rw hr (same-place (entryOf targetPart table t) ∙ sym (behind-as true (eq-eqb k 33 named) ∙ inner-of d (sym hd) n))
+
+  -- the walk
+  pub walk-starts : (r : Rec ℕ Span) (n : ℕ) → n ≡ declarationsOf table → goesOn ctx n r ≡ neverEnds ctx r
+  unfolding contextBy
+  walk-starts r n e = ap (λ (m : ℕ). goesOn ctx m r) e
+
+  module _ (r : Rec ℕ Span) (all : Bool) where
+    pub walk-ends : (n : ℕ) → 0 < n → none ≡ behind ctx r → goesOn ctx n r ≡ all → false ≡ all
+    unfolding chainEnd
+    walk-ends zero h e inv = absurd (omega arith)
+    walk-ends (suc n) h e inv =
+        ap isSome e
+        ∙ ap (λ (o : Option (Rec ℕ Span)). isSome (behind ctx (elim o [ none ↦ r | some q ↦ chainEnd ctx n q ]))) e
+        ∙ inv
+
+    pub walk-on : (n : ℕ) (q : Rec ℕ Span) → 0 < n → some q ≡ behind ctx r → goesOn ctx n r ≡ all → goesOn ctx (n - 1) q ≡ all
+    unfolding chainEnd
+    walk-on zero q h e inv = absurd (omega arith)
+    walk-on (suc n) q h e inv =
+        let back : suc n - 1 ≡ n = omega arith in
+        rw back (ap (λ (o : Option (Rec ℕ Span)). isSome (behind ctx (elim o [ none ↦ r | some p ↦ chainEnd ctx n p ]))) e ∙ inv)
+
+    pub walk-last : (n : ℕ) (o : Option (Rec ℕ Span)) → n ≤ 0 → o ≡ behind ctx r → goesOn ctx n r ≡ all → isSome o ≡ all
+    unfolding chainEnd
+    walk-last zero o h e inv = ap isSome e ∙ inv
+    walk-last (suc n) o h e inv = absurd (omega arith)
+
+  -- the place of the next type
+  next-none : (p : ℕ) (o : Option (Rec ℕ Span)) → placed sheet p ≡ o → p ≡ 0 → none ≡ o
+  next-none p o e z = sym (ap (placed sheet) z) ∙ e
+
+  next-some : (p : ℕ) (o : Option (Rec ℕ Span)) → placed sheet p ≡ o → (p ≡ 0 → ⊥) → some (viewAt sheet (p - 1)) ≡ o
+  next-some zero o e n = absurd (n refl)
+  next-some (suc p) o e n = let back : suc p - 1 ≡ p = omega arith in rw back e
+
+  next-test : (p : ℕ) → not (eqb p 0) ≡ isSome (placed sheet p)
+  next-test zero = refl
+  next-test (suc p) = rw (ne-eqb (suc p) 0 (omega arith))
+
+  module _ (at left p : ℕ) (all : Bool) (inv : goesOn ctx left (viewAt sheet at) ≡ all) (hp : placed sheet p ≡ behind ctx (viewAt sheet at)) where
+    pub never-ended : 0 < left → p ≡ 0 → false ≡ all
+    never-ended h z = walk-ends (viewAt sheet at) all left h (next-none p _ hp z) inv
+
+    pub never-again : 0 < left → (p ≡ 0 → ⊥) → goesOn ctx (left - 1) (viewAt sheet (p - 1)) ≡ all
+    never-again h n = walk-on (viewAt sheet at) all left (viewAt sheet (p - 1)) h (next-some p _ hp n) inv
+
+    pub never-last : left ≤ 0 → not (eqb p 0) ≡ all
+    never-last h = next-test p ∙ walk-last (viewAt sheet at) all left (placed sheet p) h hp inv
+
+  -- a newtype whose chain never ends
+  module _ (i n kind sub : ℕ) (hk : kind ≡ kindIn (recordBytes sheet i)) (hs : sub ≡ subIn (recordBytes sheet i)) where
+    endless-as : (b : Bool) → (eqb kind 1 && eqb sub 4) ≡ b → isOf 1 4 (viewAt sheet i) ≡ b
+    unfolding viewAt
+    endless-as b e = sym (ap (λ (k : ℕ). eqb k 1 && eqb sub 4) hk ∙ ap (λ (q : ℕ). eqb (kindIn (recordBytes sheet i)) 1 && eqb q 4) hs) ∙ e
+
+    pub other-ends : (eqb kind 1 && eqb sub 4) ≡ false → false ≡ (isOf 1 4 (viewAt sheet i) && leadsNowhere ctx (viewOf sheet (i + 1) n))
+    other-ends e = sym (ap (λ (b : Bool). b && leadsNowhere ctx (viewOf sheet (i + 1) n)) (endless-as false e))
+
+    module _ (e : (eqb kind 1 && eqb sub 4) ≡ true) where
+      pub last-ends : n ≤ i + 1 → false ≡ (isOf 1 4 (viewAt sheet i) && leadsNowhere ctx (viewOf sheet (i + 1) n))
+      last-ends h =
+          sym (ap (λ (b : Bool). b && leadsNowhere ctx (viewOf sheet (i + 1) n)) (endless-as true e) ∙ ap (leadsNowhere ctx) (view-end sheet (i + 1) n h))
+
+      pub newtype-walked : (r : Bool) → i + 1 < n → r ≡ neverEnds ctx (viewAt sheet (i + 1))
+          → r ≡ (isOf 1 4 (viewAt sheet i) && leadsNowhere ctx (viewOf sheet (i + 1) n))
+      newtype-walked r h hr =
+          hr
+          ∙ sym (ap (λ (b : Bool). b && leadsNowhere ctx (viewOf sheet (i + 1) n)) (endless-as true e)
+          ∙ ap (leadsNowhere ctx) (view-cons sheet (i + 1) n h))
+
+  -- the first of them
+  abbrev chosen : ℕ → ℕ → Bool → Option Fault
+  chosen i n b = elim b [ true ↦ some (record { number = 9; index = i }) | false ↦ endlessChain ctx (suc i) (viewOf sheet (i + 1) n) ]
+
+  module _ (i n : ℕ) (b : Bool) (all : Option Fault) (inv : endlessChain ctx i (viewOf sheet i n) ≡ all)
+      (hb : b ≡ (isOf 1 4 (viewAt sheet i) && leadsNowhere ctx (viewOf sheet (i + 1) n))) (h : i < n) where
+    chain-turn : (c : Bool) → b ≡ c → chosen i n c ≡ all
+    unfolding endlessChain
+    chain-turn c e = ap (chosen i n) (sym e ∙ hb) ∙ sym (ap (endlessChain ctx i) (view-cons sheet i n h)) ∙ inv
+
+    pub endless-found : b ≡ true → some (record { number = 9; index = i }) ≡ all
+    endless-found = chain-turn true
+
+    pub endless-again : b ≡ false → endlessChain ctx (i + 1) (viewOf sheet (i + 1) n) ≡ all
+    endless-again e = ap (λ (m : ℕ). endlessChain ctx m (viewOf sheet (i + 1) n)) (add-one i) ∙ chain-turn false e
+
+  pub endless-none : (i n : ℕ) (all : Option Fault) → endlessChain ctx i (viewOf sheet i n) ≡ all → n ≤ i → none ≡ all
+  unfolding endlessChain
+  endless-none i n all inv h = sym (ap (endlessChain ctx i) (view-end sheet i n h)) ∙ inv
+
+  pub endless-starts : (n : ℕ) → n ≡ length sheet / 32 → endlessChain ctx 0 (viewOf sheet 0 n) ≡ endlessBy table sheet
+  unfolding endlessBy
+  endless-starts n e = ap (λ (m : ℕ). endlessChain ctx 0 (viewOf sheet 0 m)) e

@@ -1,0 +1,61 @@
+-- The rows in turn: each answer of the code is the row that the definition comes to.
+use Prim.Native.Nat.{ℕ, _%_, _<_, _≤_}
+use mathlib.Core.Path.{_≡_, refl, sym, ap, _∙_}
+use mathlib.Core.Bool.{Bool, true, false, not, _||_}
+use mathlib.Core.List.{List}
+use mathlib.Core.Option.{Option, some, none}
+use lib.ListN.{length}
+use lib.Dec.{eqb, ltb}
+use borrow.Author.Tests.{lt-ltb, le-ltb, ltb-false}
+use Rattle.rules.specs.Record.{records}
+use Rattle.rules.specs.Grammar.{start}
+use Rattle.rules.specs.Refusals.{Fault, isWrongLength, isLongNames}
+use Rattle.rules.specs.Answer.{numberOf}
+use Rattle.rules.specs.declared.answer.Refusal.{Refusal}
+use Rattle.refusals.specs.declared.verdict.Verdict.{Verdict}
+use Rattle.refusals.specs.declared.verdict.Verdict.the-variants.{Accepted, Refused}
+use Rattle.refusals.specs.Pass.{isSecond, firstFaultBy, verdictOf}
+use Rattle.refusals.specs.Turned.{endlessBy, refusalBy}
+
+right-false : (a b : Bool) → (a || b) ≡ false → b ≡ false
+right-false false b e = e
+right-false true b e = cc
+
+-- a sheet whose length is not wrong is no longer than 32768 bytes
+pub short-sheet : (sheet : List ℕ) → isWrongLength sheet ≡ false → length sheet ≤ 32768
+short-sheet sheet e = ltb-false 32768 (length sheet) (right-false (not (eqb (length sheet % 32) 0)) (ltb 32768 (length sheet)) e)
+
+module _ (table sheet names : List ℕ) where
+  abbrev third : Option Fault → Option Fault
+  third o = elim o [ some f ↦ some f | none ↦ endlessBy table sheet ]
+
+  abbrev second : Option Fault → Bool → Option Fault
+  second x b = elim b [ true ↦ some (record { number = 2; index = 0 }) | false ↦ x ]
+
+  abbrev first : Option Fault → Bool → Option Fault
+  first x b = elim b [ true ↦ some (record { number = 1; index = 0 }) | false ↦ x ]
+
+  abbrev passed : Option Fault
+  passed = firstFaultBy (isSecond table) start 0 (records sheet names)
+
+  rows-as : (a b : Bool) → isWrongLength sheet ≡ a → isLongNames names ≡ b → refusalBy table sheet names ≡ first (second (third passed) b) a
+  unfolding refusalBy
+  rows-as a b ea eb =
+      ap (first (second (third passed) (isLongNames names))) ea ∙ ap (λ (c : Bool). first (second (third passed) c) a) eb
+
+  pub row-1 : isWrongLength sheet ≡ true → some (record { number = 1; index = 0 }) ≡ refusalBy table sheet names
+  row-1 e = sym (rows-as true (isLongNames names) e refl)
+
+  module _ (e : isWrongLength sheet ≡ false) where
+    pub row-2 : 16384 < length names → some (record { number = 2; index = 0 }) ≡ refusalBy table sheet names
+    row-2 h = sym (rows-as false true e (lt-ltb 16384 (length names) h))
+
+    module _ (h : length names ≤ 16384) (v : Verdict) (hv : verdictOf v ≡ firstFaultBy (isSecond table) start 0 (records sheet names)) where
+      rows-then : third (verdictOf v) ≡ refusalBy table sheet names
+      rows-then = ap third hv ∙ sym (rows-as false false e (le-ltb 16384 (length names) h))
+
+      pub rows-3-to-8 : (why : Refusal) (index : ℕ) → v ≡ Refused why index → some (record { number = numberOf why; index = index }) ≡ refusalBy table sheet names
+      rows-3-to-8 why index q = sym (ap (λ (w : Verdict). third (verdictOf w)) q) ∙ rows-then
+
+      pub row-9 : (x : Option Fault) → v ≡ Accepted → x ≡ endlessBy table sheet → x ≡ refusalBy table sheet names
+      row-9 x q hx = hx ∙ sym (ap (λ (w : Verdict). third (verdictOf w)) q) ∙ rows-then

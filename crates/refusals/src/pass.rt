@@ -1,0 +1,105 @@
+// The pass over the records: the first fault by rows 3 to 8.
+ghost use mathlib.Core.Path.{_≡_};
+ghost use mathlib.Core.Bool.{_&&_};
+ghost use Prim.Native.Nat.{_<_, _≤_};
+ghost use lib.ListN.{length};
+ghost use lib.Dec.{eqb};
+ghost use Rattle.rules.specs.Record.{recordBytes, decode, kindIn, subIn, records};
+ghost use Rattle.rules.specs.Grammar as Grammar;
+ghost use Rattle.refusals.specs.Due.{bare, Sound};
+ghost use Rattle.refusals.specs.States.{stateOf, stepOf, StepSound};
+ghost use Rattle.refusals.specs.Pass.{isSecond, orSecond, declaredTo, recordStepBy, firstFaultBy, verdictOf};
+use crate::machine::may_end;
+use crate::machine::start;
+use crate::machine::step;
+use crate::own::Own;
+use crate::own::own_fault;
+use crate::state::State;
+use crate::state::Step;
+use crate::verdict::Verdict;
+use rules::Refusal;
+use sheet::kinds;
+
+// Whether the first declaration of record `i`'s name is another one.
+fn is_second(table: &[u16; 5122], i: usize) -> bool
+    requires { ⌜ i < 1024 ⌝ }
+    ensures { λ r. ⌜ r ≡ isSecond (now (table .entry)) i ⌝ }
+{
+    names::declaration(table, i) as usize != i + 1
+}
+
+// The step, or row 8 for a second declaration.
+fn declared(second: bool, step: Step) -> Step
+    ensures { λ r. ⌜ r ≡ declaredTo second step ⌝ }
+{
+    match step {
+        Step::Fault(why) => Step::Fault(why),
+        Step::To(s) => {
+            if second {
+                return Step::Fault(Refusal::SecondDeclaration); // row 8
+            }
+            Step::To(s)
+        }
+    }
+}
+
+// Rows 6 to 8 at record `i`.
+fn grammar_step(sheet: &[u8], table: &[u16; 5122], due: &mut [u8; 66], s: State, i: usize) -> Step
+    requires { ⌜ Sound (now due) (s .height) × (i < 1024) ⌝ }
+    ensures { λ r. ⌜ (stepOf r (now (due .exit)) ≡ orSecond (eqb (kindIn (recordBytes (now (sheet .entry)) i)) 1 && isSecond (now (table .entry)) i) (Grammar.step (stateOf s (now (due .entry))) (bare (kindIn (recordBytes (now (sheet .entry)) i)) (subIn (recordBytes (now (sheet .entry)) i))))) × StepSound r (now (due .exit)) ⌝ }
+{
+    let kind = sheet::kind(sheet, i);
+    let sub = sheet::sub(sheet, i);
+    let second = (kind == kinds::DECLARATION) & is_second(table, i);
+    declared(second, step(due, s, kind, sub))
+}
+
+// Rows 3 to 8 at record `i`, the lowest number first.
+fn record_step(
+    sheet: &[u8],
+    names: &[u8],
+    table: &[u16; 5122],
+    due: &mut [u8; 66],
+    s: State,
+    i: usize,
+) -> Step
+    requires { ⌜ Sound (now due) (s .height) × (i < 1024) ⌝ }
+    ensures { λ r. ⌜ (stepOf r (now (due .exit)) ≡ recordStepBy (isSecond (now (table .entry)) i) (stateOf s (now (due .entry))) (decode (now (names .entry)) (recordBytes (now (sheet .entry)) i))) × StepSound r (now (due .exit)) ⌝ }
+{
+    match own_fault(sheet, names, i) {
+        Own::Fault(why) => Step::Fault(why),
+        Own::Sound => grammar_step(sheet, table, due, s, i),
+    }
+}
+
+// The first fault by rows 3 to 8, and row 6 for an early end. The stack is 66 bytes of this function's.
+pub fn first_fault(sheet: &[u8], names: &[u8], table: &[u16; 5122]) -> Verdict
+    requires { ⌜ length (now sheet) ≤ 32768 ⌝ }
+    ensures { λ r. ⌜ verdictOf r ≡ firstFaultBy (isSecond (now (table .entry))) Grammar.start 0 (records (now (sheet .entry)) (now (names .entry))) ⌝ }
+{
+    let mut due = [0u8; 66];
+    let n = sheet::records(sheet);
+    let mut s = start();
+    let mut i = 0;
+    while i < n {
+        match record_step(sheet, names, table, &mut due, s, i) {
+            Step::Fault(why) => {
+                return Verdict::Refused {
+                    refusal: why,
+                    index: i as u32,
+                };
+            }
+            Step::To(t) => {
+                s = t;
+                i = i + 1;
+            }
+        }
+    }
+    if may_end(s) {
+        return Verdict::Accepted;
+    }
+    Verdict::Refused {
+        refusal: Refusal::OutOfOrder,
+        index: n as u32,
+    } // row 6
+}

@@ -1,0 +1,31 @@
+// The nine rows.
+ghost use mathlib.Core.Path.{_≡_};
+ghost use Rattle.refusals.specs.Pass.{verdictOf};
+ghost use Rattle.refusals.specs.Turned.{refusalBy};
+use crate::chain::endless;
+use crate::pass::first_fault;
+use crate::verdict::Verdict;
+use rules::Refusal;
+use rules::Sheet;
+
+// Why the sheet and the names text are turned down, if they are; the table says what is declared.
+pub fn refuse(sheet: &[u8], names: &[u8], table: &[u16; 5122]) -> Verdict
+    ensures { λ r. ⌜ verdictOf r ≡ refusalBy (now (table .entry)) (now (sheet .entry)) (now (names .entry)) ⌝ }
+{
+    if (sheet.len() % Sheet::RECORD != 0) | (Sheet::MAX_LEN < sheet.len()) {
+        return Verdict::Refused {
+            refusal: Refusal::SheetLength,
+            index: 0,
+        }; // row 1
+    }
+    if Sheet::MAX_NAMES_LEN < names.len() {
+        return Verdict::Refused {
+            refusal: Refusal::NamesLength,
+            index: 0,
+        }; // row 2
+    }
+    match first_fault(sheet, names, table) {
+        Verdict::Refused { refusal, index } => Verdict::Refused { refusal, index },
+        Verdict::Accepted => endless(sheet, table), // row 9
+    }
+}
