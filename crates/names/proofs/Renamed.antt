@@ -1,5 +1,5 @@
 -- Record i of the view is record i of the sheet, with its index for a name; and the table answers at that index what the context answers of
--- the name. So the rules find the same list through the table.
+-- the name. So the rules find the same list through the table, and the same chains never end.
 use Prim.Native.Nat.{ℕ, zero, suc, _+_, _-_, _*_, _/_, _%_, _<_, _≤_}
 use native.Mathlib.Nat.{sub-zero}
 use native.Mathlib.Decide.{decLt}
@@ -18,12 +18,13 @@ use Rattle.rules.specs.Kind
 use Rattle.rules.specs.Sub
 use Rattle.rules.specs.Record.{Rec, is, recordSize, recordBytes, isNamedIn, fitsIn, nameIn, subIn, decode, pieces, records}
 use Rattle.rules.specs.Context.{Declared, contextOf, declared, innerOf}
+use Rattle.rules.specs.Refusals.{endlessChain}
 use Rattle.rules.specs.Bodies.{violationsOf}
 use Rattle.rules.specs.Answer.{isAccepted, foundIn}
 use Rattle.rules.proofs.Every.{Every, every-nil, every-cons, every-at}
 use Rattle.rules.proofs.Records.{length-records, records-at, records-drop, records-end}
 use Rattle.rules.proofs.AcceptedSheet.{accepted-length, accepted-whole, accepted-fits}
-use Rattle.rules.proofs.Renamed.{renamed, mapOption, Holds, renamedDeclared, WellNamed, Agree}
+use Rattle.rules.proofs.Renamed.{renamed, mapOption, Holds, renamedDeclared, WellNamed, Agree, endless-renamed}
 use Rattle.rules.proofs.RenamedBodies.{violations-renamed}
 use Rattle.names.specs.NameTable.{placeOf, isNamed, idIn, targetAt, targetIn, codeOf, nameTable, tableOf}
 use Rattle.names.specs.View.{viewAt, viewFrom, viewOf, entryOf, idPart, declarationPart, importPart, targetPart, codePart, declaredBy, contextBy}
@@ -113,14 +114,16 @@ declared-well sheet (suc d) (suc t) = λ h. h
 abbrev targetFrom : List (Rec (List ℕ) Span) → ℕ → ℕ
 targetFrom rs place = elim place [ zero ↦ 0 | suc n ↦ targetAt (suc n) (drop n rs) ]
 
-module _ (sheet names : List ℕ) (accepted : isAccepted sheet names ≡ true) where
+-- a sheet of whole records that the table has room for, with names that fit
+module _ (sheet names : List ℕ) (room : length sheet ≤ 32768) (whole : length sheet % 32 ≡ 0)
+    (fits : Every (λ r. r .fits ≡ true) (records sheet names)) where
   fits-at : (i : ℕ) → i < length sheet / 32 → fitsIn names (recordBytes sheet i) ≡ true
   unfolding decode
   fits-at i h =
       let d : Rec (List ℕ) Span = decode names [] in
-      rw (records-at sheet names i d h) at (every-at (accepted-fits sheet names accepted) d i (rw length-records h))
+      rw (records-at sheet names i d h) at (every-at fits d i (rw length-records h))
 
-  -- the records of an accepted sheet are those of the view, each under its name
+  -- the records are those of the view, each under its name
   pub records-renamed : records sheet names ≡ map (renamed (nameAt sheet names)) (viewOf sheet 0 (length sheet / recordSize))
   unfolding records
   records-renamed = rw (sub-zero (length sheet / 32)) (pieces-view sheet names 0 (length sheet / 32) (λ j h. fits-at j (omega arith)))
@@ -137,7 +140,7 @@ module _ (sheet names : List ℕ) (accepted : isAccepted sheet names ≡ true) w
 
   -- the table has room for every record
   short : length rs ≤ 1024
-  short = rw length-records (omega (arith, accepted-length sheet names accepted))
+  short = rw length-records (omega arith)
 
   table-whole : nameTable sheet names ≡ tableOf rs
   unfolding nameTable
@@ -146,7 +149,7 @@ module _ (sheet names : List ℕ) (accepted : isAccepted sheet names ≡ true) w
   -- what the table says of a record with a name
   module _ (i : ℕ) (has : HasName sheet i) where
     inside : i < length sheet / 32
-    inside = named-within sheet i (accepted-whole sheet names accepted) has
+    inside = named-within sheet i whole has
 
     named-at : isNamed (recordAt i) ≡ true
     unfolding decode
@@ -165,19 +168,19 @@ module _ (sheet names : List ℕ) (accepted : isAccepted sheet names ≡ true) w
     import-entry : anyOf (bears Kind.ImportedName (nameAt sheet names i)) rs ≡ not (eqb (entryOf importPart (tableOf rs) i) 0)
     unfolding decode
     import-entry =
-        import-says rs (accepted-fits sheet names accepted) (recordAt i) named-at
+        import-says rs (fits) (recordAt i) named-at
         ∙ ap (λ (n : ℕ). not (eqb n 0)) (sym (entry importPart (omega arith)))
 
     declaration-entry : entryOf declarationPart (tableOf rs) i ≡ placeOf (bears Kind.Declaration (nameAt sheet names i)) rs
     unfolding decode
     declaration-entry =
-        entry declarationPart (omega arith) ∙ declaration-place rs (accepted-fits sheet names accepted) (recordAt i) named-at
+        entry declarationPart (omega arith) ∙ declaration-place rs (fits) (recordAt i) named-at
 
     target-entry : entryOf targetPart (tableOf rs) i ≡ targetFrom rs (placeOf (bears Kind.Declaration (nameAt sheet names i)) rs)
     unfolding targetIn decode
     target-entry =
         entry targetPart (omega arith)
-        ∙ ap (targetFrom rs) (declaration-place rs (accepted-fits sheet names accepted) (recordAt i) named-at)
+        ∙ ap (targetFrom rs) (declaration-place rs (fits) (recordAt i) named-at)
 
   same-entry :
       (a b : ℕ) → HasName sheet a → HasName sheet b →
@@ -264,9 +267,21 @@ module _ (sheet names : List ℕ) (accepted : isAccepted sheet names ≡ true) w
       Agree (nameAt sheet names) (HasName sheet) (contextOf (records sheet names)) (contextBy (nameTable sheet names) sheet)
   contexts-agree = rw table-whole agree
 
+  -- row 9 by the table
+  pub table-chains :
+      endlessChain (contextBy (nameTable sheet names) sheet) 0 (viewOf sheet 0 (length sheet / recordSize))
+      ≡ endlessChain (contextOf (records sheet names)) 0 (records sheet names)
+  table-chains =
+      sym (endless-renamed contexts-agree 0 (view-well sheet 0 (length sheet / recordSize - 0)))
+      ∙ ap (endlessChain (contextOf (records sheet names)) 0) (sym records-renamed)
+
+module _ (sheet names : List ℕ) (accepted : isAccepted sheet names ≡ true) where
   -- the table gives the list
   pub table-list : violationsOf (contextBy (nameTable sheet names) sheet) (viewOf sheet 0 (length sheet / recordSize)) ≡ foundIn sheet names
   unfolding foundIn
   table-list =
-      sym (violations-renamed contexts-agree (view-well sheet 0 (length sheet / recordSize - 0)))
-      ∙ ap (violationsOf (contextOf (records sheet names))) (sym records-renamed)
+      let room = accepted-length sheet names accepted in
+      let whole = accepted-whole sheet names accepted in
+      let fits = accepted-fits sheet names accepted in
+      sym (violations-renamed (contexts-agree sheet names room whole fits) (view-well sheet 0 (length sheet / recordSize - 0)))
+      ∙ ap (violationsOf (contextOf (records sheet names))) (sym (records-renamed sheet names room whole fits))

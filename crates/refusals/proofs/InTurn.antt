@@ -1,12 +1,11 @@
 -- The rows in turn: each answer of the code is the row that the definition comes to.
-use Prim.Native.Nat.{ℕ, _%_, _<_, _≤_}
+use Prim.Native.Nat.{ℕ, _<_, _≤_}
 use mathlib.Core.Path.{_≡_, refl, sym, ap, _∙_}
-use mathlib.Core.Bool.{Bool, true, false, not, _||_}
+use mathlib.Core.Bool.{Bool, true, false}
 use mathlib.Core.List.{List}
 use mathlib.Core.Option.{Option, some, none}
 use lib.ListN.{length}
-use lib.Dec.{eqb, ltb}
-use borrow.Author.Tests.{lt-ltb, le-ltb, ltb-false}
+use borrow.Author.Tests.{lt-ltb, le-ltb}
 use Rattle.rules.specs.Record.{records}
 use Rattle.rules.specs.Grammar.{start}
 use Rattle.rules.specs.Refusals.{Fault, isWrongLength, isLongNames}
@@ -16,14 +15,6 @@ use Rattle.refusals.specs.declared.verdict.Verdict.{Verdict}
 use Rattle.refusals.specs.declared.verdict.Verdict.the-variants.{Accepted, Refused}
 use Rattle.refusals.specs.Pass.{isSecond, firstFaultBy, verdictOf}
 use Rattle.refusals.specs.Turned.{endlessBy, refusalBy}
-
-right-false : (a b : Bool) → (a || b) ≡ false → b ≡ false
-right-false false b e = e
-right-false true b e = cc
-
--- a sheet whose length is not wrong is no longer than 32768 bytes
-pub short-sheet : (sheet : List ℕ) → isWrongLength sheet ≡ false → length sheet ≤ 32768
-short-sheet sheet e = ltb-false 32768 (length sheet) (right-false (not (eqb (length sheet % 32) 0)) (ltb 32768 (length sheet)) e)
 
 module _ (table sheet names : List ℕ) where
   abbrev third : Option Fault → Option Fault

@@ -18,6 +18,19 @@ use Rattle.rules.specs.Answer.{isAccepted}
 use Rattle.rules.proofs.Lists.{or-left, or-right}
 use Rattle.rules.proofs.Every.{Every, every-nil, every-cons}
 
+-- a sheet that row 1 does not turn down is not too long
+pub short-sheet : (sheet : List ℕ) → isWrongLength sheet ≡ false → length sheet ≤ maxLength
+short-sheet sheet h =
+    ltb-false maxLength (length sheet) (or-right (not (eqb (length sheet % recordSize) 0)) (ltb maxLength (length sheet)) h)
+
+-- a sheet that row 1 does not turn down has whole records
+pub whole-sheet : (sheet : List ℕ) → isWrongLength sheet ≡ false → length sheet % recordSize ≡ 0
+whole-sheet sheet h = go (eqb (length sheet % recordSize) 0) refl
+  where
+    go : (b : Bool) → eqb (length sheet % recordSize) 0 ≡ b → length sheet % recordSize ≡ 0
+    go true e = eqb-true (length sheet % recordSize) 0 e
+    go false e = cc (or-left (not (eqb (length sheet % recordSize) 0)) (ltb maxLength (length sheet)) h)
+
 right-length : (sheet names : List ℕ) → isAccepted sheet names ≡ true → isWrongLength sheet ≡ false
 unfolding refusal
 right-length sheet names h = go (isWrongLength sheet) refl
@@ -28,17 +41,11 @@ right-length sheet names h = go (isWrongLength sheet) refl
 
 -- an accepted sheet is not too long
 pub accepted-length : (sheet names : List ℕ) → isAccepted sheet names ≡ true → length sheet ≤ maxLength
-accepted-length sheet names h =
-    ltb-false maxLength (length sheet)
-    (or-right (not (eqb (length sheet % recordSize) 0)) (ltb maxLength (length sheet)) (right-length sheet names h))
+accepted-length sheet names h = short-sheet sheet (right-length sheet names h)
 
 -- an accepted sheet has whole records
 pub accepted-whole : (sheet names : List ℕ) → isAccepted sheet names ≡ true → length sheet % recordSize ≡ 0
-accepted-whole sheet names h = go (eqb (length sheet % recordSize) 0) refl
-  where
-    go : (b : Bool) → eqb (length sheet % recordSize) 0 ≡ b → length sheet % recordSize ≡ 0
-    go true e = eqb-true (length sheet % recordSize) 0 e
-    go false e = cc (or-left (not (eqb (length sheet % recordSize) 0)) (ltb maxLength (length sheet)) (right-length sheet names h))
+accepted-whole sheet names h = whole-sheet sheet (right-length sheet names h)
 
 -- an accepted sheet has no fault by rows 3 to 8
 pub accepted-clean : (sheet names : List ℕ) → isAccepted sheet names ≡ true → firstFault sameBytes start [] 0 (records sheet names) ≡ none
@@ -64,7 +71,8 @@ module _ {N P : Type 0} where
       go true false d e = cc (rw (d, ownFault, recordStep) at h)
       go false false d e = cc (rw (d, e, ownFault, recordStep) at h)
 
-  clean-fits :
+  -- records without a fault by rows 3 to 8 have names that end within the names text
+  pub clean-fits :
       (same : N → N → Bool) (s : State) (names : List N) (i : ℕ) (rs : List (Rec N P)) →
       firstFault same s names i rs ≡ none → Every (λ r. r .fits ≡ true) rs
   unfolding firstFault

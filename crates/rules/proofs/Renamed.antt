@@ -1,5 +1,5 @@
 -- Records under other names, and contexts that say the same of them. Each step of a chain leads to the same type but for its name, so the
--- chain ends in the same type.
+-- chain ends in the same type, or never ends.
 use Prim.Native.Nat.{ℕ, zero, suc}
 use mathlib.Core.Path.{_≡_, refl, ap, _∙_}
 use mathlib.Core.Bool.{Bool, true, false, _&&_}
@@ -9,9 +9,11 @@ use lib.Dec.{eqb}
 use borrow.Author.Tests.{eqb-true}
 use Rattle.rules.specs.Words.{anyOf, member}
 use Rattle.rules.specs.Kind
-use Rattle.rules.specs.Record.{Rec, is}
-use Rattle.rules.specs.Context.{ValidationContext, Declared, declaredAs, behind, chainEnd}
-use Rattle.rules.proofs.Every.{Every, every-as}
+use Rattle.rules.specs.Sub
+use Rattle.rules.specs.Record.{Rec, is, isOf}
+use Rattle.rules.specs.Context.{ValidationContext, Declared, declaredAs, behind, chainEnd, neverEnds}
+use Rattle.rules.specs.Refusals.{Fault, leadsNowhere, endlessChain}
+use Rattle.rules.proofs.Every.{Every, every-nil, every-cons, every-as}
 use Rattle.rules.proofs.Mapped.{any-same}
 use Rattle.rules.proofs.Unused.{if-same}
 
@@ -127,7 +129,7 @@ module _ {M N P : Type 0} {g : M → N} {Good : M → Type 0} {ctx : ValidationC
           rw (e, behind, agree .declMap (r .name) good) (inner (ctx′ .declMap (r .name)) (agree .inner (r .name) good))
       go false e = rw (e, behind) (refl, tt)
 
-  pub chain-renamed :
+  chain-renamed :
       (n : ℕ) (r : Rec M P) → WellNamed Good r →
       (chainEnd ctx n (renamed g r) ≡ renamed g (chainEnd ctx′ n r)) × WellNamed Good (chainEnd ctx′ n r)
   unfolding chainEnd
@@ -143,3 +145,40 @@ module _ {M N P : Type 0} {g : M → N} {Good : M → Type 0} {ctx : ValidationC
           × Well (elim o [ none ↦ r | some t ↦ chainEnd ctx′ n t ])
       go none h ih = (refl, w)
       go (some t) h ih = ih t h
+
+  -- the type at the end of the chain
+  pub end-renamed :
+      (r : Rec M P) → WellNamed Good r →
+      (chainEnd ctx (ctx .declarations) (renamed g r) ≡ renamed g (chainEnd ctx′ (ctx′ .declarations) r))
+      × WellNamed Good (chainEnd ctx′ (ctx′ .declarations) r)
+  end-renamed r w =
+      let chain = chain-renamed (ctx′ .declarations) r w in
+      (ap (λ n. chainEnd ctx n (renamed g r)) (agree .declarations) ∙ chain .0, chain .1)
+
+  never-renamed : (r : Rec M P) → Well r → neverEnds ctx (renamed g r) ≡ neverEnds ctx′ r
+  never-renamed r w =
+      let end = end-renamed r w in
+      let t : Rec M P = chainEnd ctx′ (ctx′ .declarations) r in
+      ap (λ (q : Rec N P). isThere (behind ctx q)) (end .0) ∙ ap isThere (behind-renamed t (end .1) .0) ∙ there (behind ctx′ t)
+    where
+      isThere : Option (Rec N P) → Bool
+      isThere o = elim o [ none ↦ false | some t ↦ true ]
+
+      there : (o : Option (Rec M P)) → isThere (mapOption (renamed g) o) ≡ elim o [ none ↦ false | some t ↦ true ]
+      there none = refl
+      there (some t) = refl
+
+  leads-renamed : {rs : List (Rec M P)} → Every Well rs → leadsNowhere ctx (map (renamed g) rs) ≡ leadsNowhere ctx′ rs
+  leads-renamed every-nil = refl
+  leads-renamed (every-cons {x} w h) = never-renamed x w
+
+  -- row 9
+  pub endless-renamed :
+      (i : ℕ) {rs : List (Rec M P)} → Every (WellNamed Good) rs → endlessChain ctx i (map (renamed g) rs) ≡ endlessChain ctx′ i rs
+  unfolding endlessChain
+  endless-renamed i every-nil = refl
+  endless-renamed i (every-cons {x} w h) =
+      λ t. elim (isOf Kind.Declaration Sub.Newtype x && leads-renamed h t) as (λ b. Option Fault) [
+        | true ↦ some (record { number = 9; index = i })
+        | false ↦ endless-renamed (suc i) h t
+      ]

@@ -23,7 +23,7 @@ use Rattle.rules.proofs.Lists.{and-left, and-right}
 use Rattle.rules.proofs.Every.{Every, EveryOf, every-nil, every-cons, every-front, every-rest, every-take, every-items, every-as, every-front-as}
 use Rattle.rules.proofs.Mapped.{mapItem, take-map, firstIs-map, front-map, rest-map, items-map, any-same, select-same, flatMap-map, flatMap-same}
 use Rattle.rules.proofs.Unused.{if-same}
-use Rattle.rules.proofs.Renamed.{renamed, WellNamed, GoodName, Agree, named, declared-renamed, as-renamed, named-renamed, met-renamed, chain-renamed}
+use Rattle.rules.proofs.Renamed.{renamed, WellNamed, GoodName, Agree, named, declared-renamed, as-renamed, named-renamed, met-renamed, end-renamed}
 
 -- annotations and arguments have names
 annotated : {N P : Type 0} (r : Rec N P) → inAnnotations r ≡ true → Kind.hasName (r .kind) (r .sub) ≡ true
@@ -75,15 +75,14 @@ module _ {M N P : Type 0} {g : M → N} {Good : M → Type 0} {ctx : ValidationC
   pub key-renamed : (r : Rec M P) → WellNamed Good r → isInvalidMapKey ctx (renamed g r) ≡ isInvalidMapKey ctx′ r
   unfolding isInvalidMapKey
   key-renamed r w =
-      let chain = chain-renamed agree (ctx′ .declarations) r w in
-      let end = ap (λ n. chainEnd ctx n (renamed g r)) (agree .declarations) ∙ chain .0 in
+      let end = end-renamed agree r w in
       let t : Rec M P = chainEnd ctx′ (ctx′ .declarations) r in
       let bad : Bool = is Kind.Primitive t && (within Sub.F32 Sub.F64 (t .sub) || eqb (t .sub) Sub.Void) in
-      rw end
+      rw (end .0)
       (λ i. bad
       || within Kind.Optional Kind.Array (t .kind)
       || within Kind.Set Kind.Result (t .kind)
-      || named-renamed agree t (chain .1)
+      || named-renamed agree t (end .1)
       (λ n. declaredAs ctx Sub.Message n || declaredAs ctx Sub.Union n || declaredAs ctx Sub.Config n)
       (λ m. declaredAs ctx′ Sub.Message m || declaredAs ctx′ Sub.Union m || declaredAs ctx′ Sub.Config m)
       (λ m h j. as-renamed agree Sub.Message m h j || as-renamed agree Sub.Union m h j || as-renamed agree Sub.Config m h j) i)

@@ -1,6 +1,7 @@
 -- `refuse` asks the rows in turn and answers with the first that is met.
 use borrow.Author.Needs.{needs}
-use Rattle.refusals.proofs.InTurn.{short-sheet, row-1, row-2, rows-3-to-8, row-9}
+use Rattle.rules.proofs.AcceptedSheet.{short-sheet}
+use Rattle.refusals.proofs.InTurn.{row-1, row-2, rows-3-to-8, row-9}
 use Rattle.refusals.proofs.rows.refuse.Statement.{statement}
 use Rattle.refusals.proofs.rows.refuse.Tie as tie
 
