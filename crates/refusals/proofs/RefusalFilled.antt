@@ -60,3 +60,8 @@ module _ (sheet names : List ℕ) where
           ≡ inTurn (orElse chains pass) (isLongNames names) (isWrongLength sheet)
       go true e = rw e
       go false e = ap (λ (x : Option Fault). inTurn x (isLongNames names) (isWrongLength sheet)) (then-same e)
+
+  -- what is told by a filled table
+  pub told-by-filled :
+      (table : List ℕ) (told : Option Fault) → table ≡ nameTable sheet names → told ≡ refusalBy table sheet names → told ≡ refusal sheet names
+  told-by-filled table told filled e = e ∙ ap (λ t. refusalBy t sheet names) filled ∙ refusal-filled

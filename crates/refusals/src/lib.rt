@@ -11,5 +11,5 @@ mod verdict;
 
 pub use own::Own;
 pub use own::own_fault;
-pub use rows::refuse;
+pub use rows::accept;
 pub use verdict::Verdict;

@@ -1,5 +1,7 @@
 // The nine rows.
 ghost use mathlib.Core.Path.{_≡_};
+ghost use Rattle.rules.specs.Refusals.{refusal};
+ghost use Rattle.names.specs.NameTable.{nameTable};
 ghost use Rattle.refusals.specs.Pass.{verdictOf};
 ghost use Rattle.refusals.specs.Turned.{refusalBy};
 use crate::chain::endless;
@@ -9,7 +11,7 @@ use rules::Refusal;
 use rules::Sheet;
 
 // Why the sheet and the names text are turned down, if they are; the table says what is declared.
-pub fn refuse(sheet: &[u8], names: &[u8], table: &[u16; 5122]) -> Verdict
+fn refuse(sheet: &[u8], names: &[u8], table: &[u16; 5122]) -> Verdict
     ensures { λ r. ⌜ verdictOf r ≡ refusalBy (now (table .entry)) (now (sheet .entry)) (now (names .entry)) ⌝ }
 {
     if (sheet.len() % Sheet::RECORD != 0) | (Sheet::MAX_LEN < sheet.len()) {
@@ -28,4 +30,12 @@ pub fn refuse(sheet: &[u8], names: &[u8], table: &[u16; 5122]) -> Verdict
         Verdict::Refused { refusal, index } => Verdict::Refused { refusal, index },
         Verdict::Accepted => endless(sheet, table), // row 9
     }
+}
+
+// Whether the sheet and the names text are accepted, and if not, by which row at which record. The table of names is filled in any case.
+pub fn accept(sheet: &[u8], names: &[u8], table: &mut [u16; 5122]) -> Verdict
+    ensures { λ r. ⌜ (verdictOf r ≡ refusal (now (sheet .entry)) (now (names .entry))) × (now (table .exit) ≡ nameTable (now (sheet .entry)) (now (names .entry))) ⌝ }
+{
+    names::fill(sheet, names, table);
+    refuse(sheet, names, table)
 }
