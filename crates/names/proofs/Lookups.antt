@@ -21,7 +21,7 @@ use Rattle.rules.proofs.Unused.{if-same}
 use Rattle.names.specs.NameTable.{placeOf, isNamed, sameName, idIn, declarationIn, importIn}
 use Rattle.names.proofs.FirstPlaces.{oneOn, place-same, place-passes, place-none}
 
-same-itself : (xs : List ℕ) → sameBytes xs xs ≡ true
+pub same-itself : (xs : List ℕ) → sameBytes xs xs ≡ true
 unfolding sameBytes
 same-itself [] = refl
 same-itself (x ∷ xs) = ap₂ _&&_ (eq-eqb x x refl) (same-itself xs)

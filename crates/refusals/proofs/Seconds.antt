@@ -10,13 +10,16 @@ use mathlib.Core.Option.{Option, some, none}
 use lib.ListN.{length, length-append}
 use lib.Dec.{eqb}
 use borrow.Author.Tests.{ne-eqb, eq-eqb, eqb-true, eqb-false}
-use Rattle.rules.specs.Words.{anyOf, first, onlyIf, sameBytes}
+use Rattle.rules.specs.Words.{anyOf, onlyIf, sameBytes}
 use Rattle.rules.specs.Kind
 use Rattle.rules.specs.Record.{Rec, is}
 use Rattle.rules.specs.Grammar as Grammar
-use Rattle.rules.specs.Refusals.{Fault, isUnknown, isTooGreat, ownFault, recordStep, firstFault}
-use Rattle.rules.proofs.Lists.{anyOf-append}
+use Rattle.rules.specs.Refusals.{Fault, ownFault, recordStep, firstFault}
+use Rattle.rules.proofs.Lists.{or-left, or-right, anyOf-append}
+use Rattle.rules.proofs.AcceptedSheet.{own-fits, step-fits}
 use Rattle.names.specs.NameTable.{placeOf, isNamed, sameName, declarationIn}
+use Rattle.names.proofs.FirstPlaces.{oneOn}
+use Rattle.names.proofs.Lookups.{same-itself}
 use Rattle.refusals.specs.Pass.{orSecond, recordStepBy, firstFaultBy}
 
 eqb-suc : (a b : ℕ) → eqb (suc a) (suc b) ≡ eqb a b
@@ -28,10 +31,7 @@ eqb-suc a b = go (eqb a b) refl
 
 -- the place of an element that passes is its own just if none before it passes
 module _ {A : Type 0} (p : A → Bool) where
-  abbrev later : ℕ → ℕ
-  later n = elim n [ zero ↦ 0 | suc m ↦ suc (suc m) ]
-
-  later-test : (n m : ℕ) → eqb (later n) (suc (suc m)) ≡ eqb n (suc m)
+  later-test : (n m : ℕ) → eqb (oneOn n) (suc (suc m)) ≡ eqb n (suc m)
   later-test zero m = ne-eqb 0 (suc (suc m)) (omega arith) ∙ sym (ne-eqb 0 (suc m) (omega arith))
   later-test (suc n) m = eqb-suc (suc n) (suc m)
 
@@ -44,15 +44,6 @@ module _ {A : Type 0} (p : A → Bool) where
           → eqb (placeOf p (x ∷ pre ++ r ∷ post)) (suc (suc (length pre))) ≡ not (p x || anyOf p pre)
       go true e ih = rw (e, placeOf) (ne-eqb 1 (suc (suc (length pre))) (omega arith))
       go false e ih = rw (e, placeOf) (later-test (placeOf p (pre ++ r ∷ post)) (length pre) ∙ ih)
-
-or-parts : (a b : Bool) → (a || b) ≡ false → (a ≡ false) × (b ≡ false)
-or-parts false b e = (refl, e)
-or-parts true b e = (cc, cc)
-
-same-self : (a : List ℕ) → sameBytes a a ≡ true
-unfolding sameBytes
-same-self [] = refl
-same-self (x ∷ a) = rw (eq-eqb x x refl, same-self a)
 
 eqb-sym : (a b : ℕ) → eqb a b ≡ eqb b a
 eqb-sym a b = go (eqb b a) refl
@@ -68,10 +59,7 @@ same-sym [] (y ∷ b) = refl
 same-sym (x ∷ a) [] = refl
 same-sym (x ∷ a) (y ∷ b) = rw (eqb-sym x y, same-sym a b)
 
--- rows 3 to 5 of three tests, and a step behind them
-abbrev cut : Bool → Bool → Bool → Option ℕ
-cut u f g = first (onlyIf u (3 ∷ []) ++ onlyIf (not f) (4 ∷ []) ++ onlyIf g (5 ∷ []))
-
+-- a step behind rows 3 to 5
 abbrev byOwn : Bool → Grammar.Step Grammar.State → Option ℕ → Grammar.Step Grammar.State
 byOwn b x o = elim o [ some n ↦ Grammar.fault n | none ↦ orSecond b x ]
 
@@ -86,10 +74,6 @@ by-same : (b : Bool) (x : Grammar.Step Grammar.State) (o : Option ℕ) → byNam
 by-same b x (some n) = refl
 by-same b (Grammar.fault n) none = refl
 by-same b (Grammar.to t) none = refl
-
-by-taken : (b : Bool) (x : Grammar.Step Grammar.State) (o : Option ℕ) (t : Grammar.State) → byOwn b x o ≡ Grammar.to t → o ≡ none
-by-taken b x (some n) t e = cc
-by-taken b x none t e = refl
 
 module _ {P : Type 0} where
   abbrev declares : Rec (List ℕ) P → Bool
@@ -119,8 +103,8 @@ module _ {P : Type 0} where
   unfolding anyOf
   among r n [] f = refl
   among r n (x ∷ pre) f =
-      let parts = or-parts (declares x && not (x .fits)) (anyOf (λ q. declares q && not (q .fits)) pre) f in
-      go (declares x) refl (x .fits) refl (parts .0) (among r n pre (parts .1))
+      go (declares x) refl (x .fits) refl (or-left (declares x && not (x .fits)) _ f)
+      (among r n pre (or-right (declares x && not (x .fits)) _ f))
     where
       go : (d : Bool) → declares x ≡ d → (e : Bool) → x .fits ≡ e → (declares x && not (x .fits)) ≡ false
           → anyOf (λ q. declares q && sameName r q) pre ≡ anyOf (λ q. declares q && sameBytes (r .name) (q .name)) pre
@@ -136,7 +120,7 @@ module _ {P : Type 0} where
   unfolding declarationIn
   second-own ns pre post r d f fit known =
       let n = declares-named r d f in
-      let own : (declares r && sameName r r) ≡ true = rw (d, same-named r r n n, same-self (r .name)) in
+      let own : (declares r && sameName r r) ≡ true = rw (d, same-named r r n n, same-itself (r .name)) in
       ap not (place-own (λ q. declares q && sameName r q) pre post r own)
       ∙ double (anyOf (λ q. declares q && sameName r q) pre)
       ∙ among r n pre fit
@@ -145,16 +129,6 @@ module _ {P : Type 0} where
       double : (b : Bool) → not (not b) ≡ b
       double true = refl
       double false = refl
-
-  -- a record without a fault of its own fits
-  own-fits : (r : Rec (List ℕ) P) → ownFault r ≡ none → r .fits ≡ true
-  unfolding ownFault
-  own-fits r = go (isUnknown r) (r .fits) (isTooGreat r)
-    where
-      go : (u f g : Bool) → cut u f g ≡ none → f ≡ true
-      go true f g e = cc
-      go false true g e = refl
-      go false false g e = cc
 
   -- the steps are the same
   by-table : (s : Grammar.State) (r : Rec (List ℕ) P) (sec : Bool) → recordStepBy sec s r ≡ byOwn (declares r && sec) (Grammar.step s r) (ownFault r)
@@ -237,6 +211,6 @@ module _ {P : Type 0} where
             → firstFaultBy second s (length pre) (r ∷ rs) ≡ firstFault sameBytes s ns (length pre) (r ∷ rs)
         go (Grammar.fault n) ex ih = ap (turnBy i rs) (same ∙ ex) ∙ sym (ap turnNames ex)
         go (Grammar.to t) ex ih =
-            let own = by-taken (declares r && anyOf (sameBytes (r .name)) ns) (Grammar.step s r) (ownFault r) t (sym (by-names s r ns) ∙ ex) in
-            let rest = ih t (e ∙ sym (append-assoc pre (r ∷ []) rs)) (names-more ns pre r known) (fitting-more pre r fit (own-fits r own)) in
+            let fits = step-fits sameBytes s ns r ex in
+            let rest = ih t (e ∙ sym (append-assoc pre (r ∷ []) rs)) (names-more ns pre r known) (fitting-more pre r fit fits) in
             ap (turnBy i rs) (same ∙ ex) ∙ rw one-more at rest ∙ sym (ap turnNames ex)

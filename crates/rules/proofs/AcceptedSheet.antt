@@ -60,16 +60,25 @@ accepted-clean sheet names h = go (isWrongLength sheet) (isLongNames names) (fir
     go false false none d e g = g
 
 module _ {N P : Type 0} where
-  step-fits :
-      (same : N → N → Bool) (s : State) (names : List N) (r : Rec N P) {t : State} →
-      recordStep same s names r ≡ to t → r .fits ≡ true
-  unfolding recordStep ownFault
-  step-fits same s names r {t} h = go (isUnknown r) (r .fits) refl refl
+  -- a record without a fault by rows 3 to 5 has a name that ends within the names text
+  pub own-fits : (r : Rec N P) → ownFault r ≡ none → r .fits ≡ true
+  unfolding ownFault
+  own-fits r h = go (isUnknown r) (r .fits) refl refl
     where
       go : (u b : Bool) → isUnknown r ≡ u → r .fits ≡ b → r .fits ≡ true
       go u true d e = e
-      go true false d e = cc (rw (d, ownFault, recordStep) at h)
-      go false false d e = cc (rw (d, e, ownFault, recordStep) at h)
+      go true false d e = cc (rw (d, ownFault) at h)
+      go false false d e = cc (rw (d, e, ownFault) at h)
+
+  pub step-fits :
+      (same : N → N → Bool) (s : State) (names : List N) (r : Rec N P) {t : State} →
+      recordStep same s names r ≡ to t → r .fits ≡ true
+  unfolding recordStep
+  step-fits same s names r {t} h = go (ownFault r) refl
+    where
+      go : (o : Option ℕ) → ownFault r ≡ o → r .fits ≡ true
+      go (some n) e = cc (rw (e, recordStep) at h)
+      go none e = own-fits r e
 
   -- records without a fault by rows 3 to 8 have names that end within the names text
   pub clean-fits :

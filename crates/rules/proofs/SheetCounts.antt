@@ -2,8 +2,7 @@
 use Prim.Native.Nat.{ℕ}
 use mathlib.Core.Path.{_≡_, refl, ap, _∙_, sym}
 use mathlib.Core.Bool.{Bool, true, false, not}
-use mathlib.Core.List.{List, [], _∷_}
-use mathlib.Core.Option.{Option, some, none}
+use mathlib.Core.List.{List, _∷_}
 use lib.Dec.{eqb}
 use Rattle.rules.specs.declared.span.Span.{Span}
 use Rattle.rules.specs.declared.violation.Violation.{Violation}
@@ -12,13 +11,13 @@ use Rattle.rules.specs.Kind
 use Rattle.rules.specs.Sub
 use Rattle.rules.specs.Record.{Rec, is, records}
 use Rattle.rules.specs.Context.{ValidationContext, contextOf}
-use Rattle.rules.specs.Grammar.{start, startsFieldItem, startsItem}
-use Rattle.rules.specs.Refusals.{Fault, firstFault, recordsFault, refusal, isWrongLength, isLongNames}
+use Rattle.rules.specs.Grammar.{startsFieldItem, startsItem}
 use Rattle.rules.specs.Rule.{Found, classOf, severityOf, violation}
 use Rattle.rules.specs.Bodies.{fieldListViolations, enumViolations, flagsViolations, unionViolations, newtypeViolations, bodyViolations, declarationViolations, violationsOf}
 use Rattle.rules.specs.Answer.{isAccepted, foundIn, fullList}
 use Rattle.rules.specs.Items.{leadOf, itemsOf, occurrences}
 use Rattle.rules.proofs.Accepted.{accepted-parts}
+use Rattle.rules.proofs.AcceptedSheet.{accepted-clean}
 use Rattle.rules.proofs.Lead.{context-of-lead}
 use Rattle.rules.proofs.Occurrences.{tally, tally-map}
 use Rattle.rules.proofs.ItemCounts.{ruleTally}
@@ -43,35 +42,6 @@ module _ {N P : Type 0} (ctx : ValidationContext N P) where
           ]
         ]
       ]
-
--- an accepted sheet has no fault by rows 3 to 8
-accepted-clean : (sheet names : List ℕ) → isAccepted sheet names ≡ true → firstFault sameBytes start [] 0 (records sheet names) ≡ none
-unfolding refusal recordsFault contextOf
-accepted-clean sheet names h =
-    by-tests
-    (isWrongLength sheet)
-    (isLongNames names)
-    (firstFault sameBytes start [] 0 (records sheet names))
-    refl
-    refl
-    refl
-    (unrefused (refusal sheet names) h)
-  where
-    unrefused : (f : Option Fault) → (elim f as (λ x. Bool) [ none ↦ true | some g ↦ false ]) ≡ true → f ≡ none
-    unrefused none e = refl
-    unrefused (some f) e = cc
-
-    by-tests :
-        (wrong long : Bool) (f : Option Fault) →
-        isWrongLength sheet ≡ wrong →
-        isLongNames names ≡ long →
-        firstFault sameBytes start [] 0 (records sheet names) ≡ f →
-        refusal sheet names ≡ none →
-        firstFault sameBytes start [] 0 (records sheet names) ≡ none
-    by-tests true long f d e g r = cc (rw (d, refusal) at r)
-    by-tests false true f d e g r = cc (rw (d, refusal, e) at r)
-    by-tests false false none d e g r = g
-    by-tests false false (some f) d e g r = cc (rw (d, refusal, e, g, recordsFault) at r)
 
 -- a test of violations that looks at class and severity alone
 module _ (q : ℕ → ℕ → Bool) where
