@@ -1,20 +1,21 @@
--- A chain is walked a step at a time: after each step as many are left as the definition has still to take.
+-- Row 9 takes the newtypes in turn, and asks the table for the type behind a type.
 use Prim.Native.Nat.{ℕ, zero, suc, _+_, _-_, _/_, _<_, _≤_}
+use native.Mathlib.Decide.{decLe}
 use native.Mathlib.Omega.{arith}
 use native.Mathlib.Numerals.{add-one}
 use mathlib.Core.Path.{_≡_, refl, sym, ap, _∙_}
-use mathlib.Core.Bool.{Bool, true, false, not, _&&_}
+use mathlib.Core.Bool.{Bool, true, false, _&&_}
 use mathlib.Core.List.{List, [], _∷_}
 use mathlib.Core.Option.{Option, some, none}
 use lib.ListN.{length}
 use lib.Dec.{eqb}
-use borrow.Author.Tests.{ne-eqb, eq-eqb}
+use borrow.Author.Tests.{ne-eqb, eq-eqb, le-ltb}
 use Rattle.rules.specs.declared.span.Span.{Span}
 use Rattle.rules.specs.Record.{Rec, isOf, recordBytes, kindIn, subIn}
-use Rattle.rules.specs.Context.{Declared, ValidationContext, behind, chainEnd, neverEnds}
+use Rattle.rules.specs.Context.{Declared, ValidationContext, behind, neverEnds}
 use Rattle.rules.specs.Refusals.{Fault, leadsNowhere, endlessChain}
-use Rattle.rules.proofs.Chains.{isSome, goesOn}
-use Rattle.names.specs.View.{viewAt, viewFrom, viewOf, entryOf, declarationPart, targetPart, declarationsOf, declaredBy, contextBy}
+use Rattle.rules.proofs.Chains.{isSome}
+use Rattle.names.specs.View.{viewAt, viewFrom, viewOf, entryOf, declarationPart, targetPart, declaredBy, contextBy}
 use Rattle.refusals.specs.Turned.{placed, endlessBy}
 
 -- the records of a view
@@ -35,6 +36,11 @@ module _ (table sheet : List ℕ) where
   abbrev behindOf : Option (Declared ℕ Span) → Bool → Option (Rec ℕ Span)
   behindOf o b = elim b [ true ↦ elim o [ none ↦ none | some d ↦ d .inner ] | false ↦ none ]
 
+  -- a name that is not declared
+  declared-none : (t : ℕ) → entryOf declarationPart table t ≡ 0 → declaredBy table sheet t ≡ none
+  unfolding declaredBy
+  declared-none t z = rw (z, declaredBy)
+
   module _ (t k : ℕ) (hk : k ≡ kindIn (recordBytes sheet t)) where
     behind-as : (b : Bool) → eqb k 33 ≡ b → behind ctx (viewAt sheet t) ≡ behindOf (declaredBy table sheet t) b
     unfolding behind contextBy viewAt
@@ -44,12 +50,8 @@ module _ (table sheet : List ℕ) where
     behind-other n = sym (behind-as false (ne-eqb k 33 n))
 
     module _ (named : k ≡ 33) (d : ℕ) (hd : d ≡ entryOf declarationPart table t) where
-      declared-none : d ≡ 0 → declaredBy table sheet t ≡ none
-      unfolding declaredBy
-      declared-none z = rw (sym hd ∙ z, declaredBy)
-
       pub behind-undeclared : d ≡ 0 → placed sheet 0 ≡ behind ctx (viewAt sheet t)
-      behind-undeclared z = sym (behind-as true (eq-eqb k 33 named) ∙ ap (λ (o : Option (Declared ℕ Span)). behindOf o true) (declared-none z))
+      behind-undeclared z = sym (behind-as true (eq-eqb k 33 named) ∙ ap (λ (o : Option (Declared ℕ Span)). behindOf o true) (declared-none t (sym hd ∙ z)))
 
       inner-of : (e : ℕ) → entryOf declarationPart table t ≡ e → (e ≡ 0 → ⊥)
           → behindOf (declaredBy table sheet t) true ≡ elim (entryOf targetPart table t) [ zero ↦ none | suc i ↦ some (viewAt sheet i) ]
@@ -65,53 +67,33 @@ module _ (table sheet : List ℕ) where
       behind-target r n hr =
           rw hr (same-place (entryOf targetPart table t) ∙ sym (behind-as true (eq-eqb k 33 named) ∙ inner-of d (sym hd) n))
 
-  -- the walk
-  pub walk-starts : (r : Rec ℕ Span) (n : ℕ) → n ≡ declarationsOf table → goesOn ctx n r ≡ neverEnds ctx r
-  unfolding contextBy
-  walk-starts r n e = ap (λ (m : ℕ). goesOn ctx m r) e
+  -- there is a type behind no record past the last that the table has
+  behind-past : (t : ℕ) → 1024 ≤ t → behind ctx (viewAt sheet t) ≡ none
+  unfolding entryOf
+  behind-past t h =
+      let named : Bool = eqb (kindIn (recordBytes sheet t)) 33 in
+      behind-as t _ refl named refl
+      ∙ ap (λ (o : Option (Declared ℕ Span)). behindOf o named) (declared-none t (rw (le-ltb t 1024 h)))
+      ∙ nothing named
+    where
+      nothing : (b : Bool) → behindOf none b ≡ none
+      nothing true = refl
+      nothing false = refl
 
-  module _ (r : Rec ℕ Span) (all : Bool) where
-    pub walk-ends : (n : ℕ) → 0 < n → none ≡ behind ctx r → goesOn ctx n r ≡ all → false ≡ all
-    unfolding chainEnd
-    walk-ends zero h e inv = absurd (omega arith)
-    walk-ends (suc n) h e inv =
-        ap isSome e
-        ∙ ap (λ (o : Option (Rec ℕ Span)). isSome (behind ctx (elim o [ none ↦ r | some q ↦ chainEnd ctx n q ]))) e
-        ∙ inv
-
-    pub walk-on : (n : ℕ) (q : Rec ℕ Span) → 0 < n → some q ≡ behind ctx r → goesOn ctx n r ≡ all → goesOn ctx (n - 1) q ≡ all
-    unfolding chainEnd
-    walk-on zero q h e inv = absurd (omega arith)
-    walk-on (suc n) q h e inv =
-        let back : suc n - 1 ≡ n = omega arith in
-        rw back (ap (λ (o : Option (Rec ℕ Span)). isSome (behind ctx (elim o [ none ↦ r | some p ↦ chainEnd ctx n p ]))) e ∙ inv)
-
-    pub walk-last : (n : ℕ) (o : Option (Rec ℕ Span)) → n ≤ 0 → o ≡ behind ctx r → goesOn ctx n r ≡ all → isSome o ≡ all
-    unfolding chainEnd
-    walk-last zero o h e inv = ap isSome e ∙ inv
-    walk-last (suc n) o h e inv = absurd (omega arith)
+  pub behind-within : (t : ℕ) → isSome (behind ctx (viewAt sheet t)) ≡ true → t < 1024
+  behind-within t h = go (decLe 1024 t)
+    where
+      go : Dec (1024 ≤ t) → t < 1024
+      go (no l) = omega arith
+      go (yes l) = let z : _≡_ {A = ℕ} 0 1 = cc (behind-past t l) in omega arith
 
   -- the place of the next type
-  next-none : (p : ℕ) (o : Option (Rec ℕ Span)) → placed sheet p ≡ o → p ≡ 0 → none ≡ o
+  pub next-none : (p : ℕ) (o : Option (Rec ℕ Span)) → placed sheet p ≡ o → p ≡ 0 → none ≡ o
   next-none p o e z = sym (ap (placed sheet) z) ∙ e
 
-  next-some : (p : ℕ) (o : Option (Rec ℕ Span)) → placed sheet p ≡ o → (p ≡ 0 → ⊥) → some (viewAt sheet (p - 1)) ≡ o
+  pub next-some : (p : ℕ) (o : Option (Rec ℕ Span)) → placed sheet p ≡ o → (p ≡ 0 → ⊥) → some (viewAt sheet (p - 1)) ≡ o
   next-some zero o e n = absurd (n refl)
   next-some (suc p) o e n = let back : suc p - 1 ≡ p = omega arith in rw back e
-
-  next-test : (p : ℕ) → not (eqb p 0) ≡ isSome (placed sheet p)
-  next-test zero = refl
-  next-test (suc p) = rw (ne-eqb (suc p) 0 (omega arith))
-
-  module _ (at left p : ℕ) (all : Bool) (inv : goesOn ctx left (viewAt sheet at) ≡ all) (hp : placed sheet p ≡ behind ctx (viewAt sheet at)) where
-    pub never-ended : 0 < left → p ≡ 0 → false ≡ all
-    never-ended h z = walk-ends (viewAt sheet at) all left h (next-none p _ hp z) inv
-
-    pub never-again : 0 < left → (p ≡ 0 → ⊥) → goesOn ctx (left - 1) (viewAt sheet (p - 1)) ≡ all
-    never-again h n = walk-on (viewAt sheet at) all left (viewAt sheet (p - 1)) h (next-some p _ hp n) inv
-
-    pub never-last : left ≤ 0 → not (eqb p 0) ≡ all
-    never-last h = next-test p ∙ walk-last (viewAt sheet at) all left (placed sheet p) h hp inv
 
   -- a newtype whose chain never ends
   module _ (i n kind sub : ℕ) (hk : kind ≡ kindIn (recordBytes sheet i)) (hs : sub ≡ subIn (recordBytes sheet i)) where

@@ -11,6 +11,7 @@ pub mod Bodies
 -- The pass over the records, the chains, and the rows in turn.
 pub mod Passes
 pub mod ChainWalk
+pub mod ChainLengths
 pub mod InTurn
 -- The filled table.
 pub mod Seconds

@@ -4,3 +4,4 @@ pub mod Due
 pub mod States
 pub mod Pass
 pub mod Turned
+pub mod Lengths

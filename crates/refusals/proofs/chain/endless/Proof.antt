@@ -6,17 +6,20 @@ use lib.ListN.{length}
 use Rattle.rules.specs.Refusals.{endlessChain}
 use Rattle.names.specs.View.{viewOf, contextBy}
 use Rattle.refusals.specs.Turned.{endlessBy}
+use Rattle.refusals.specs.Lengths.{Lengths}
 use borrow.Author.Needs.{needs}
 use Rattle.refusals.proofs.ChainWalk.{endless-starts, endless-found, endless-again, endless-none}
+use Rattle.refusals.proofs.ChainLengths.{lengths-none}
 use Rattle.refusals.proofs.chain.endless.Statement.{statement}
 use Rattle.refusals.proofs.chain.endless.Tie as tie
 
 abbrev Inv-loop : tie.InvT-loop
-Inv-loop sheet table n i₀ i =
-    (n ≡ length sheet / 32) × (i ≤ n) × (endlessChain (contextBy table sheet) i (viewOf sheet i n) ≡ endlessBy table sheet)
+Inv-loop sheet table lengths₀ n i₀ lengths i =
+    (n ≡ length sheet / 32) × (i ≤ n) × Lengths table sheet lengths
+    × (endlessChain (contextBy table sheet) i (viewOf sheet i n) ≡ endlessBy table sheet)
 
 abbrev μ-loop : tie.MeasureT-loop
-μ-loop sheet table n i₀ i = n - i
+μ-loop sheet table lengths₀ n i₀ lengths i = n - i
 
 pub endless-spec : {M : Type 1} → statement M
 endless-spec =
@@ -25,11 +28,21 @@ endless-spec =
     Inv-loop
     μ-loop
     (λ c κs. search needs)
-    (λ c. (c .records .ensures, search needs, endless-starts _ _ _ (c .records .ensures)))
+    (λ c. (c .records .ensures, search needs, lengths-none _ _, endless-starts _ _ _ (c .records .ensures)))
     (λ c κs. search needs)
     (λ c. omega arith)
-    (λ c. endless-found _ _ _ _ _ _ (c .before .before .before .loop .inv .2) (c .before .is-endless .ensures) (c .before .before .loop-test .taken) (c .if1 .taken))
+    (λ c.
+    let turn = c .before .before .before in
+    endless-found _ _ _ _ _ _ (turn .before .loop .inv .3) (c .before .is-endless .ensures .0) (turn .loop-test .taken) (c .if1 .taken))
     (λ c. omega arith)
     (λ c. omega arith)
-    (λ c. (c .before .before .before .loop .inv .0, omega arith, endless-again _ _ _ _ _ _ (c .before .before .before .loop .inv .2) (c .before .is-endless .ensures) (c .before .before .loop-test .taken) (c .if1 .left)))
-    (λ c. endless-none _ _ _ _ _ (c .before .loop .inv .2) (c .loop-test .left)))
+    (λ c.
+    let turn = c .before .before .before in
+    let inv = turn .before .loop .inv in
+    let found = c .before .is-endless .ensures in (
+      inv .0,
+      omega arith,
+      found .1,
+      endless-again _ _ _ _ _ _ (inv .3) (found .0) (turn .loop-test .taken) (c .if1 .left),
+    ))
+    (λ c. endless-none _ _ _ _ _ (c .before .loop .inv .3) (c .loop-test .left)))

@@ -14,6 +14,11 @@ is-endless-spec =
     (λ c. omega arith)
     (λ c. omega arith)
     (λ c κs. search needs)
-    (λ c. newtype-walked _ _ _ _ _ _ (c .before .before .before .before .kind .ensures) (c .before .before .before .sub .ensures) (c .before .before .if1 .taken) _ (c .before .if2 .taken) (c .never-ends .ensures))
-    (λ c. last-ends _ _ _ _ _ _ (c .before .before .before .kind .ensures) (c .before .before .sub .ensures) (c .before .if1 .taken) (c .if2 .left))
-    (λ c. other-ends _ _ _ _ _ _ (c .before .before .kind .ensures) (c .before .sub .ensures) (c .if1 .left)))
+    (λ c.
+    let newtype = c .before .before .before in
+    let asked = newtype .before in
+    (newtype-walked _ _ _ _ _ _ (asked .before .kind .ensures) (asked .sub .ensures) (newtype .if1 .taken) _ (c .before .before .if2 .taken) (c .never-ends .ensures .0), search needs))
+    (λ c.
+    let asked = c .before .before in
+    (last-ends _ _ _ _ _ _ (asked .before .kind .ensures) (asked .sub .ensures) (c .before .if1 .taken) (c .if2 .left), search needs))
+    (λ c. (other-ends _ _ _ _ _ _ (c .before .before .kind .ensures) (c .before .sub .ensures) (c .if1 .left), search needs)))
