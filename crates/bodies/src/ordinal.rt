@@ -1,0 +1,45 @@
+// What is wrong with an ordinal.
+ghost use mathlib.Core.Path.{_≡_};
+ghost use mathlib.Core.List.{List};
+ghost use Prim.Native.Nat.{ℕ};
+ghost use Rattle.rules.specs.declared.answer.Counts.{Counts};
+ghost use Rattle.bodies.specs.Ordinal.{pushOrdinal};
+use rules::Counts;
+use rules::Violation;
+
+// The greatest ordinal of a list, and the classes of one that is over it, of one that a tombstone has, and of one that is met already.
+pub struct OrdinalRules {
+    pub greatest: u64,
+    pub too_large: u16,
+    pub reused: u16,
+    pub duplicate: u16,
+}
+
+// Adds what is wrong with the ordinal of record `i`.
+pub fn check_ordinal(
+    sheet: &[u8],
+    list: &mut [u8],
+    counts: Counts,
+    i: usize,
+    rules: OrdinalRules,
+    tombstoned: bool,
+    met: bool,
+) -> Counts
+    ensures { λ r. ⌜ _≡_ {A = List ℕ × Counts} (now (list .exit), r) (pushOrdinal rules (now (sheet .entry)) i tombstoned met (now (list .entry), counts)) ⌝ }
+{
+    let span = sheet::ordinal_span(sheet, i);
+    let over = rules.greatest < sheet::value(sheet, i);
+    let counts = diagnostic::push_if(list, counts, over, Violation::error(span, rules.too_large));
+    let counts = diagnostic::push_if(
+        list,
+        counts,
+        tombstoned,
+        Violation::error(span, rules.reused),
+    );
+    diagnostic::push_if(
+        list,
+        counts,
+        !tombstoned & met,
+        Violation::error(span, rules.duplicate),
+    )
+}
