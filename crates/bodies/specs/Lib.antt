@@ -2,5 +2,4 @@ pub mod Backing
 pub mod Earlier
 pub mod Items
 pub mod Ordinal
-pub mod Runs
 pub mod Seen

@@ -1,13 +1,4 @@
 // The five bodies: rules 1 to 5 and 31 to 38.
-mod declaration;
-mod enums;
-mod field;
-mod flags;
-mod message;
-mod newtype;
+mod errors;
 mod ordinal;
-mod runs;
 mod seen;
-mod unions;
-
-pub use declaration::check_declaration;

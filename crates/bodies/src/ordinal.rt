@@ -4,8 +4,8 @@ ghost use mathlib.Core.List.{List};
 ghost use Prim.Native.Nat.{ℕ};
 ghost use Rattle.rules.specs.declared.answer.Counts.{Counts};
 ghost use Rattle.bodies.specs.Ordinal.{pushOrdinal};
+use crate::errors::error_if;
 use rules::Counts;
-use rules::Violation;
 
 // The greatest ordinal of a list, and the classes of one that is over it, of one that a tombstone has, and of one that is met already.
 pub struct OrdinalRules {
@@ -29,17 +29,7 @@ pub fn check_ordinal(
 {
     let span = sheet::ordinal_span(sheet, i);
     let over = rules.greatest < sheet::value(sheet, i);
-    let counts = diagnostic::push_if(list, counts, over, Violation::error(span, rules.too_large));
-    let counts = diagnostic::push_if(
-        list,
-        counts,
-        tombstoned,
-        Violation::error(span, rules.reused),
-    );
-    diagnostic::push_if(
-        list,
-        counts,
-        !tombstoned & met,
-        Violation::error(span, rules.duplicate),
-    )
+    let counts = error_if(list, counts, over, span, rules.too_large);
+    let counts = error_if(list, counts, tombstoned, span, rules.reused);
+    error_if(list, counts, !tombstoned & met, span, rules.duplicate)
 }

@@ -21,7 +21,7 @@ pub fn contains(ordinals: &[u64; 1024], len: usize, ordinal: u64) -> bool
     let mut found = false;
     let mut i = 0;
     while i < len {
-        found = found | (ordinals[i] == ordinal);
+        found = (ordinal == ordinals[i]) | found;
         i += 1;
     }
     found
