@@ -1,3 +1,4 @@
 pub mod Collecting
 pub mod Ordinals
 pub mod Passing
+pub mod Turns
