@@ -1,4 +1,5 @@
 pub mod Collecting
+pub mod FieldTurns
 pub mod Ordinals
 pub mod Passing
 pub mod Turns

@@ -1,0 +1,109 @@
+-- A field list, record by record.
+use Prim.Native.Nat.{ℕ, _+_, _-_, _≤_, _<_}
+use native.Mathlib.Omega.{arith}
+use mathlib.Core.Path.{_≡_, refl, sym, ap, ap₂, _∙_}
+use mathlib.Core.Bool.{Bool, true, false, not, _&&_, _||_}
+use mathlib.Core.List.{List, [], _∷_, _++_, append-nil, map, flatMap}
+use lib.Dec.{eqb, ltb, leb}
+use borrow.Author.Tests.{eqb-true, eq-eqb, ne-eqb, leb-true}
+use Rattle.rules.specs.declared.span.Span.{Span}
+use Rattle.rules.specs.Words.{within, onlyIf, anyOf, member, front, items}
+use Rattle.rules.specs.Kind
+use Rattle.rules.specs.Record.{Rec, is}
+use Rattle.rules.specs.Grammar.{startsFieldItem}
+use Rattle.rules.specs.Context.{ValidationContext}
+use Rattle.rules.specs.Rule.{Found, foundIf}
+use Rattle.rules.specs.Bodies.{Scheme, fieldScheme, foundAll, isMember, memberViolations, fieldViolations, fieldItemViolations}
+use Rattle.names.specs.View.{viewAt, viewOf, contextBy}
+use Rattle.bodies.specs.Ordinal.{memberFound}
+use Rattle.bodies.specs.Items.{fieldFound}
+use Rattle.bodies.proofs.Passing.{values, before}
+use Rattle.bodies.proofs.Turns.{namesOf, left, itemAt, turn-member, turn-other, turn-inner}
+
+-- what the tests say is what the rules of a scheme ask
+pub member-tests :
+    (ctx : ValidationContext ℕ Span) (s : Scheme) (gone met names : List ℕ) (r : Rec ℕ Span) (tombstoned again renamed : Bool) →
+    tombstoned ≡ member (r .value) gone → (not tombstoned && again) ≡ (not (member (r .value) gone) && member (r .value) met) →
+    renamed ≡ anyOf (ctx .same (r .name)) names →
+    memberFound s tombstoned again renamed r ≡ memberViolations ctx s gone met names r
+unfolding memberFound memberViolations
+member-tests ctx s gone met names r tombstoned again renamed ht hm hn =
+    λ i.
+      foundAll (s .over) (ltb (s .greatest) (r .value)) (r .ordinalPlace)
+      ++ foundAll (s .tombstoned) (ht i) (r .ordinalPlace)
+      ++ foundAll (s .repeated) (hm i) (r .ordinalPlace)
+      ++ foundAll (s .renamed) (hn i) (r .place)
+
+-- the kinds of a field list
+field-starts : (r : Rec ℕ Span) → is Kind.Field r ≡ true → startsFieldItem r ≡ true
+field-starts r t = let k : r .kind ≡ 11 = eqb-true (r .kind) 11 t in rw k
+
+field-member : (r : Rec ℕ Span) → is Kind.Field r ≡ true → isMember r ≡ true
+field-member r t = let k : r .kind ≡ 11 = eqb-true (r .kind) 11 t in rw k
+
+field-plain : (r : Rec ℕ Span) → is Kind.Field r ≡ true → is Kind.Invariant r ≡ false
+field-plain r t = let k : r .kind ≡ 11 = eqb-true (r .kind) 11 t in rw k
+
+and-right : (b c : Bool) → (b && c) ≡ true → c ≡ true
+and-right true true h = refl
+and-right true false h = h
+and-right false true h = refl
+and-right false false h = h
+
+other-member : (r : Rec ℕ Span) → startsFieldItem r ≡ true → is Kind.Field r ≡ false → isMember r ≡ false
+other-member r st t =
+    let small : r .kind ≤ 13 = leb-true (r .kind) 13 (and-right (leb 11 (r .kind)) (leb (r .kind) 13) st) in
+    rw (t, ne-eqb (r .kind) 14 (λ k. absurd (omega (arith, small, k))))
+
+invariant-starts : (r : Rec ℕ Span) → startsFieldItem r ≡ false → is Kind.Invariant r ≡ false
+invariant-starts r st = go (is Kind.Invariant r) refl
+  where
+    go : (b : Bool) → is Kind.Invariant r ≡ b → is Kind.Invariant r ≡ false
+    go true t = let k : r .kind ≡ 13 = eqb-true (r .kind) 13 t in t ∙ (rw k at st)
+    go false t = t
+
+module _ (table sheet : List ℕ) (a e : ℕ) (gone : List ℕ) where
+  abbrev ctx : ValidationContext ℕ Span
+  ctx = contextBy table sheet
+
+  abbrev pub fieldsBefore : ℕ → List (Rec ℕ Span)
+  fieldsBefore i = before 11 12 sheet a e i
+
+  -- what is found from record i on
+  unfoldable pub fieldsLeft : ℕ → List (Found Span)
+  fieldsLeft i = left ctx fieldScheme (fieldItemViolations ctx) startsFieldItem 11 sheet a e gone i
+
+  abbrev at : ℕ → Rec ℕ Span
+  at i = viewAt sheet i
+
+  -- a record that is no field
+  pub field-other :
+      (i : ℕ) → a ≤ i → i < e → is Kind.Field (at i) ≡ false →
+      fieldsLeft i ≡ foundIf 1 (is Kind.Invariant (at i)) (at i .place) ++ fieldsLeft (i + 1)
+  unfolding fieldsLeft fieldItemViolations
+  field-other i le h t = go (startsFieldItem (at i)) refl
+    where
+      go : (b : Bool) → startsFieldItem (at i) ≡ b → fieldsLeft i ≡ foundIf 1 (is Kind.Invariant (at i)) (at i .place) ++ fieldsLeft (i + 1)
+      go true st =
+          turn-other ctx fieldScheme (fieldItemViolations ctx) startsFieldItem 11 sheet a e gone i le h st (other-member (at i) st t) t
+          ∙ ap (λ fs. fs ++ fieldsLeft (i + 1))
+          (ap (λ b. foundIf 1 (is Kind.Invariant (at i)) (at i .place) ++ onlyIf b (fieldViolations ctx (front (λ r. not (startsFieldItem r)) (viewOf sheet (i + 1) e)))) t
+          ∙ append-nil (foundIf 1 (is Kind.Invariant (at i)) (at i .place)))
+      go false st =
+          turn-inner ctx fieldScheme (fieldItemViolations ctx) startsFieldItem 11 sheet a e gone i le h st t
+          ∙ sym (ap (λ b. foundIf 1 b (at i .place) ++ fieldsLeft (i + 1)) (invariant-starts (at i) st))
+
+  -- a field
+  pub field-turn :
+      (i : ℕ) (tombstoned again renamed : Bool) → a ≤ i → i < e → is Kind.Field (at i) ≡ true →
+      tombstoned ≡ member (at i .value) gone →
+      (not tombstoned && again) ≡ (not (member (at i .value) gone) && member (at i .value) (values (fieldsBefore i))) →
+      renamed ≡ anyOf (ctx .same (at i .name)) (namesOf (fieldsBefore i)) →
+      fieldsLeft i ≡ fieldFound table sheet i e tombstoned again renamed ++ fieldsLeft (i + 1)
+  unfolding fieldsLeft fieldItemViolations fieldFound
+  field-turn i tombstoned again renamed le h t ht hm hn =
+      turn-member ctx fieldScheme (fieldItemViolations ctx) startsFieldItem 11 sheet a e gone i le h (field-starts (at i) t) (field-member (at i) t) t
+      ∙ ap (λ fs. fs ++ fieldsLeft (i + 1))
+      (ap₂ _++_ (sym (member-tests ctx fieldScheme gone (values (fieldsBefore i)) (namesOf (fieldsBefore i)) (at i) tombstoned again renamed ht hm hn))
+      (ap₂ (λ (b c : Bool). foundIf 1 b (at i .place) ++ onlyIf c (fieldViolations ctx (front (λ r. not (startsFieldItem r)) (viewOf sheet (i + 1) e))))
+      (field-plain (at i) t) t))
