@@ -2,4 +2,5 @@ pub mod Collecting
 pub mod FieldTurns
 pub mod Ordinals
 pub mod Passing
+pub mod Retired
 pub mod Turns
