@@ -1,4 +1,5 @@
 pub mod Collecting
+pub mod FieldList
 pub mod FieldTurns
 pub mod Ordinals
 pub mod Passing
