@@ -3,10 +3,11 @@ use Prim.Native.Nat.{ℕ}
 use mathlib.Core.Path.{_≡_, refl, sym, ap, _∙_}
 use mathlib.Core.Bool.{Bool, true, false, not, _&&_}
 use mathlib.Core.List.{List, [], _∷_, _++_, flatMap}
-use lib.Dec.{ltb}
+use lib.Dec.{eqb, ltb}
 use Rattle.rules.specs.declared.span.Span.{Span}
 use Rattle.rules.specs.declared.violation.Violation.{Violation}
-use Rattle.rules.specs.Record.{Rec, recordBytes, spanIn, ordinalSpanIn, valueIn}
+use Rattle.rules.specs.Kind
+use Rattle.rules.specs.Record.{Rec, is, recordBytes, kindIn, spanIn, ordinalSpanIn, valueIn}
 use Rattle.rules.specs.Rule.{Found, foundIf, violation, ruleRow, classOf, severityOf, error}
 use Rattle.rules.specs.Bodies.{Scheme, foundAll, fieldScheme, enumScheme, unionScheme}
 use Rattle.names.specs.View.{viewAt}
@@ -77,3 +78,37 @@ module _ (rules : OrdinalRules) (o t r : ℕ) (over : Tells (rules .«too_large�
       u ≡ pushOrdinal rules sheet i tombstoned met s → u ≡ pushFound (memberFound (scheme []) tombstoned met false (viewAt sheet i)) s
   unfolding flatMap
   nameless-found sheet i tombstoned met s u hu = member-found [] sheet i tombstoned met false s u u hu (sym (found-none u))
+
+-- the rules of a field's ordinal and name
+pub field-members :
+    (sheet : List ℕ) (i : ℕ) (tombstoned met again : Bool) (span : Span) (s u v : State) →
+    u ≡ pushOrdinal (record { greatest = 65535; «too_large» = 15; reused = 16; duplicate = 14 }) sheet i tombstoned met s →
+    span ≡ spanIn (recordBytes sheet i) → v ≡ pushIf again (record { class = 13; severity = 0; span = span }) u →
+    v ≡ pushFound (memberFound fieldScheme tombstoned met again (viewAt sheet i)) s
+unfolding ruleRow viewAt
+field-members sheet i tombstoned met again span s u v hu hs hv =
+    member-found (record { greatest = 65535; «too_large» = 15; reused = 16; duplicate = 14 }) 2 3 4 (λ p. refl) (λ p. refl) (λ p. refl)
+    (5 ∷ []) sheet i tombstoned met again s u v hu
+    (hv ∙ all-found 13 5 again span u (λ p. refl) ∙ ap (λ p. pushFound (foundAll (5 ∷ []) again p) u) hs)
+
+pub enum-members :
+    (sheet : List ℕ) (i : ℕ) (tombstoned met : Bool) (s u : State) →
+    u ≡ pushOrdinal (record { greatest = 65535; «too_large» = 35; reused = 34; duplicate = 34 }) sheet i tombstoned met s →
+    u ≡ pushFound (memberFound enumScheme tombstoned met false (viewAt sheet i)) s
+unfolding ruleRow
+enum-members = nameless-found (record { greatest = 65535; «too_large» = 35; reused = 34; duplicate = 34 }) 31 32 32 (λ p. refl) (λ p. refl) (λ p. refl)
+
+pub union-members :
+    (sheet : List ℕ) (i : ℕ) (tombstoned met : Bool) (s u : State) →
+    u ≡ pushOrdinal (record { greatest = 65535; «too_large» = 43; reused = 42; duplicate = 42 }) sheet i tombstoned met s →
+    u ≡ pushFound (memberFound unionScheme tombstoned met false (viewAt sheet i)) s
+unfolding ruleRow
+union-members = nameless-found (record { greatest = 65535; «too_large» = 43; reused = 42; duplicate = 42 }) 35 36 36 (λ p. refl) (λ p. refl) (λ p. refl)
+
+-- rule 1 at an invariant
+pub invariant-found :
+    (sheet : List ℕ) (i k : ℕ) (span : Span) (s t : State) → k ≡ kindIn (recordBytes sheet i) → span ≡ spanIn (recordBytes sheet i) →
+    t ≡ pushIf (eqb k 13) (record { class = 68; severity = 0; span = span }) s →
+    t ≡ pushFound (foundIf 1 (is Kind.Invariant (viewAt sheet i)) (viewAt sheet i .place)) s
+unfolding ruleRow viewAt
+invariant-found sheet i k span s t hk hs ht = rw (ht, hk, hs) (found-if 1 (is Kind.Invariant (viewAt sheet i)) (spanIn (recordBytes sheet i)) s)
