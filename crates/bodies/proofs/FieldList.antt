@@ -6,24 +6,23 @@ use mathlib.Core.Bool.{Bool, true, false, not, _&&_, _||_}
 use mathlib.Core.List.{List, [], _∷_, _++_, map}
 use lib.ListN.{length, set, length-set}
 use lib.Dec.{eqb}
-use borrow.Author.Tests.{eq-eqb, ne-eqb}
 use Rattle.rules.specs.declared.span.Span.{Span}
 use Rattle.rules.specs.Words.{onlyIf, anyOf, member, items}
 use Rattle.rules.specs.Kind
 use Rattle.rules.specs.Record.{Rec, is, kindIn, valueIn, recordBytes}
 use Rattle.rules.specs.Grammar.{startsFieldItem}
-use Rattle.rules.specs.Rule.{Found, foundIf}
+use Rattle.rules.specs.Rule.{foundIf}
 use Rattle.rules.specs.Bodies.{fieldScheme, itemsViolations, fieldItemViolations, fieldListViolations}
 use Rattle.names.specs.View.{viewAt, viewOf, entryOf, idPart, contextBy}
 use Rattle.diagnostic.specs.Push.{State, pushFound}
-use Rattle.diagnostic.proofs.FoundPushes.{found-append, found-none}
+use Rattle.diagnostic.proofs.FoundPushes.{found-none}
 use Rattle.bodies.specs.declared.seen.Seen.{Seen}
 use Rattle.bodies.specs.Seen.{latest}
 use Rattle.bodies.specs.Earlier.{valuesOf, earlier}
 use Rattle.bodies.specs.Items.{fieldFound}
 use Rattle.bodies.proofs.Collecting.{latest-store}
 use Rattle.bodies.proofs.Passing.{values, gone, before, earlier-next, Known, known-start, known-other, known-room, known-member, known-gone, known-met}
-use Rattle.bodies.proofs.Turns.{namesOf, turn-none}
+use Rattle.bodies.proofs.Turns.{namesOf, added, kind-is, kind-not, turn-none}
 use Rattle.bodies.proofs.Retired.{retired-fields}
 use Rattle.bodies.proofs.FieldTurns.{fieldsLeft, field-other, field-turn}
 
@@ -38,15 +37,6 @@ same-names :
 unfolding anyOf contextBy
 same-names table sheet i [] = refl
 same-names table sheet i (r ∷ rs) = ap (λ b. eqb (entryOf idPart table i) (entryOf idPart table (r .name)) || b) (same-names table sheet i rs)
-
--- a record's kind, as it was read
-kind-is : (sheet : List ℕ) (i k kind : ℕ) → k ≡ kindIn (recordBytes sheet i) → k ≡ kind → is kind (viewAt sheet i) ≡ true
-unfolding viewAt
-kind-is sheet i k kind hk h = ap (λ n. eqb n kind) (sym hk) ∙ eq-eqb k kind h
-
-kind-not : (sheet : List ℕ) (i k kind : ℕ) → k ≡ kindIn (recordBytes sheet i) → (k ≡ kind → ⊥) → is kind (viewAt sheet i) ≡ false
-unfolding viewAt
-kind-not sheet i k kind hk h = ap (λ n. eqb n kind) (sym hk) ∙ ne-eqb k kind h
 
 module _ (table sheet : List ℕ) (a e : ℕ) where
   abbrev tombs : List ℕ
@@ -86,11 +76,6 @@ module _ (table sheet : List ℕ) (a e : ℕ) where
       (refl, known-start 11 12 sheet a e ordinals tombstones (λ k. absurd (omega (arith, k))) small size₁ h,
       (size₂, omega arith, rw none refl),
       ap (λ fs. pushFound fs s) fields-start)
-
-  -- of what is to add, the first part is added
-  added :
-      (all now later : List (Found Span)) (s t u : State) → all ≡ now ++ later → t ≡ pushFound now s → pushFound all s ≡ u → pushFound later t ≡ u
-  added all now later s t u split e' h = ap (pushFound later) e' ∙ sym (found-append now later s) ∙ ap (λ fs. pushFound fs s) (sym split) ∙ h
 
   fields-next : (i : ℕ) (b : Bool) → a ≤ i → is Kind.Field (viewAt sheet i) ≡ b → fields (i + 1) ≡ onlyIf b (viewAt sheet i ∷ []) ++ fields i
   fields-next i b le t = earlier-next 11 sheet a i le ∙ ap (λ c. onlyIf c (viewAt sheet i ∷ []) ++ fields i) t

@@ -18,6 +18,7 @@ use Rattle.names.specs.View.{viewAt, viewOf, contextBy}
 use Rattle.bodies.specs.Ordinal.{memberFound}
 use Rattle.bodies.specs.Items.{fieldFound}
 use Rattle.bodies.proofs.Passing.{values, before}
+use Rattle.bodies.proofs.Retired.{and-right}
 use Rattle.bodies.proofs.Turns.{namesOf, left, itemAt, turn-member, turn-other, turn-inner}
 
 -- what the tests say is what the rules of a scheme ask
@@ -43,12 +44,6 @@ field-member r t = let k : r .kind ≡ 11 = eqb-true (r .kind) 11 t in rw k
 
 field-plain : (r : Rec ℕ Span) → is Kind.Field r ≡ true → is Kind.Invariant r ≡ false
 field-plain r t = let k : r .kind ≡ 11 = eqb-true (r .kind) 11 t in rw k
-
-and-right : (b c : Bool) → (b && c) ≡ true → c ≡ true
-and-right true true h = refl
-and-right true false h = h
-and-right false true h = refl
-and-right false false h = h
 
 other-member : (r : Rec ℕ Span) → startsFieldItem r ≡ true → is Kind.Field r ≡ false → isMember r ≡ false
 other-member r st t =

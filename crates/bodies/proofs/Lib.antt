@@ -5,3 +5,4 @@ pub mod Ordinals
 pub mod Passing
 pub mod Retired
 pub mod Turns
+pub mod Variants

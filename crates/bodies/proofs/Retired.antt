@@ -53,12 +53,12 @@ or-false : (b : Bool) → (b || false) ≡ b
 or-false true = refl
 or-false false = refl
 
-and-left : (b c : Bool) → (b && c) ≡ true → b ≡ true
+pub and-left : (b c : Bool) → (b && c) ≡ true → b ≡ true
 and-left true c h = refl
 and-left false true h = h
 and-left false false h = h
 
-and-right : (b c : Bool) → (b && c) ≡ true → c ≡ true
+pub and-right : (b c : Bool) → (b && c) ≡ true → c ≡ true
 and-right true true h = refl
 and-right true false h = h
 and-right false true h = refl
