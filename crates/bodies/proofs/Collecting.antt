@@ -91,13 +91,14 @@ module _ (sheet : List ℕ) (a e kind : ℕ) (numbers : List ℕ) where
       let room : len < length numbers = omega (arith, c .0, c .1, c .2, c .3) in
       let inside : i - 1 < e = omega (arith, c .1) in
       let back : i - 1 + 1 ≡ i = omega arith in
-      let test : is kind (viewAt sheet (i - 1)) ≡ eqb k kind = ap (λ n. eqb n kind) (sym hk) in
-      (length-set numbers len v ∙ c .0,
-      omega (arith, c .1),
-      omega (arith, c .1, c .2),
-      omega (arith, c .1, c .2, c .3, counted-below (eqb k kind)),
-      latest-counted (eqb k kind) len v (valuesOf kind (viewOf sheet i e)) room (c .4)
-      ∙ sym (values-next (eqb k kind) (i - 1) i v back test hv inside))
+      let test : is kind (viewAt sheet (i - 1)) ≡ eqb k kind = ap (λ n. eqb n kind) (sym hk) in (
+        length-set numbers len v ∙ c .0,
+        omega (arith, c .1),
+        omega (arith, c .1, c .2),
+        omega (arith, c .1, c .2, c .3, counted-below (eqb k kind)),
+        latest-counted (eqb k kind) len v (valuesOf kind (viewOf sheet i e)) room (c .4)
+            ∙ sym (values-next (eqb k kind) (i - 1) i v back test hv inside),
+      )
 
   -- the count of them is small
   pub collected-fits : (len i : ℕ) (b : Bool) → e - a ≤ 1024 → Collected sheet a e kind numbers len i → a < i → Fits w64 (len + boolByte b)
@@ -106,16 +107,18 @@ module _ (sheet : List ℕ) (a e kind : ℕ) (numbers : List ℕ) where
 
   pub collected-all :
       (len i : ℕ) → Collected sheet a e kind numbers len i → i ≤ a →
-      (latest numbers len ≡ valuesOf kind (viewOf sheet a e)) × (len ≤ e - a)
+      (latest numbers len ≡ valuesOf kind (viewOf sheet a e)) × (len ≤ e - a) × (length numbers ≡ 1024)
   collected-all len i c h =
       go (decLt a e)
     where
-      go : Dec (a < e) → (latest numbers len ≡ valuesOf kind (viewOf sheet a e)) × (len ≤ e - a)
+      go : Dec (a < e) → (latest numbers len ≡ valuesOf kind (viewOf sheet a e)) × (len ≤ e - a) × (length numbers ≡ 1024)
       go (yes l) =
           let same : i ≡ a = omega (arith, c .1, c .2) in
-          (c .4 ∙ ap (λ j. valuesOf kind (viewOf sheet j e)) same, omega (arith, c .3))
+          (c .4 ∙ ap (λ j. valuesOf kind (viewOf sheet j e)) same, omega (arith, c .3), c .0)
       go (no g) =
-          let same : i ≡ e = omega (arith, c .1, c .2) in
-          (c .4 ∙ ap (λ j. valuesOf kind (viewOf sheet j e)) same
-          ∙ ap (valuesOf kind) (view-none sheet e e (omega arith) ∙ sym (view-none sheet a e (omega arith))),
-          omega (arith, c .3))
+          let same : i ≡ e = omega (arith, c .1, c .2) in (
+            c .4 ∙ ap (λ j. valuesOf kind (viewOf sheet j e)) same
+                ∙ ap (valuesOf kind) (view-none sheet e e (omega arith) ∙ sym (view-none sheet a e (omega arith))),
+            omega (arith, c .3),
+            c .0,
+          )

@@ -15,6 +15,10 @@ use Rattle.rules.specs.Context.{ValidationContext}
 use Rattle.rules.specs.Rule.{Found, foundIf}
 use Rattle.rules.specs.Bodies.{Scheme, fieldScheme, foundAll, isMember, memberViolations, fieldViolations, fieldItemViolations}
 use Rattle.names.specs.View.{viewAt, viewOf, contextBy}
+use Rattle.diagnostic.specs.Push.{State, pushFound}
+use Rattle.diagnostic.proofs.FoundPushes.{found-then}
+use Rattle.bodies.specs.declared.runs.Run.the-variants.{FieldItem}
+use Rattle.bodies.specs.Runs.{EndsAt}
 use Rattle.bodies.specs.Ordinal.{memberFound}
 use Rattle.bodies.specs.Items.{fieldFound}
 use Rattle.bodies.proofs.Passing.{values, before}
@@ -30,10 +34,10 @@ pub member-tests :
 unfolding memberFound memberViolations
 member-tests ctx s gone met names r tombstoned again renamed ht hm hn =
     λ i.
-      foundAll (s .over) (ltb (s .greatest) (r .value)) (r .ordinalPlace)
-      ++ foundAll (s .tombstoned) (ht i) (r .ordinalPlace)
-      ++ foundAll (s .repeated) (hm i) (r .ordinalPlace)
-      ++ foundAll (s .renamed) (hn i) (r .place)
+    foundAll (s .over) (ltb (s .greatest) (r .value)) (r .ordinalPlace)
+    ++ foundAll (s .tombstoned) (ht i) (r .ordinalPlace)
+    ++ foundAll (s .repeated) (hm i) (r .ordinalPlace)
+    ++ foundAll (s .renamed) (hn i) (r .place)
 
 -- the kinds of a field list
 field-starts : (r : Rec ℕ Span) → is Kind.Field r ≡ true → startsFieldItem r ≡ true
@@ -102,3 +106,14 @@ module _ (table sheet : List ℕ) (a e : ℕ) (gone : List ℕ) where
       (ap₂ _++_ (sym (member-tests ctx fieldScheme gone (values (fieldsBefore i)) (namesOf (fieldsBefore i)) (at i) tombstoned again renamed ht hm hn))
       (ap₂ (λ (b c : Bool). foundIf 1 b (at i .place) ++ onlyIf c (fieldViolations ctx (front (λ r. not (startsFieldItem r)) (viewOf sheet (i + 1) e))))
       (field-plain (at i) t) t))
+
+  -- the ordinal and the name, and then the parts
+  pub item-found :
+      (i end : ℕ) (tombstoned again renamed : Bool) (s t u : State) →
+      t ≡ pushFound (memberFound fieldScheme tombstoned again renamed (at i)) s →
+      EndsAt FieldItem sheet (i + 1) e end →
+      u ≡ pushFound (fieldViolations ctx (viewOf sheet (i + 1) end)) t →
+      u ≡ pushFound (fieldFound table sheet i e tombstoned again renamed) s
+  unfolding fieldFound EndsAt
+  item-found i end tombstoned again renamed s t u ht he hu =
+      found-then _ _ s t u ht (hu ∙ ap (λ rs. pushFound (fieldViolations ctx rs) t) (he .0))

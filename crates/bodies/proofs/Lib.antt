@@ -1,8 +1,10 @@
 pub mod Collecting
 pub mod FieldList
+pub mod FieldParts
 pub mod FieldTurns
 pub mod Ordinals
 pub mod Passing
 pub mod Retired
+pub mod RunEnds
 pub mod Turns
 pub mod Variants

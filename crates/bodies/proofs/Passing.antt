@@ -101,17 +101,26 @@ module _ (kind tomb : ℕ) (sheet : List ℕ) (a e : ℕ) where
   unfolding earlier
   known-start numbers n ne small size h =
       let none : a - a ≡ 0 = omega arith in
-      let count : n ≡ length gone = sym (length-latest numbers n) ∙ ap length h in
-      (size, omega arith, omega arith,
-      omega (arith, two-kinds tomb kind ne (viewOf sheet a e), length-view sheet a (e - a), count),
-      h, rw none h)
+      let count : n ≡ length gone = sym (length-latest numbers n) ∙ ap length h in (
+        size,
+        omega arith,
+        omega arith,
+        omega (arith, two-kinds tomb kind ne (viewOf sheet a e), length-view sheet a (e - a), count),
+        h,
+        rw none h,
+      )
 
   pub known-other :
       (numbers : List ℕ) (tombstones len i : ℕ) → i < e → is kind (viewAt sheet i) ≡ false → Known numbers tombstones len i →
       Known numbers tombstones len (i + 1)
-  known-other numbers tombstones len i h t k =
-      (k .0, omega (arith, k .1), k .2, omega (arith, k .3, left-other kind sheet i e h t), k .4,
-      k .5 ∙ ap (λ rs. values rs ++ gone) (sym (earlier-next kind sheet a i (k .1) ∙ ap (λ b. onlyIf b (viewAt sheet i ∷ []) ++ before i) t)))
+  known-other numbers tombstones len i h t k = (
+    k .0,
+    omega (arith, k .1),
+    k .2,
+    omega (arith, k .3, left-other kind sheet i e h t),
+    k .4,
+    k .5 ∙ ap (λ rs. values rs ++ gone) (sym (earlier-next kind sheet a i (k .1) ∙ ap (λ b. onlyIf b (viewAt sheet i ∷ []) ++ before i) t)),
+  )
 
   pub known-room :
       (numbers : List ℕ) (tombstones len i : ℕ) → i < e → is kind (viewAt sheet i) ≡ true → Known numbers tombstones len i → len < 1024
@@ -122,13 +131,17 @@ module _ (kind tomb : ℕ) (sheet : List ℕ) (a e : ℕ) where
       Known numbers tombstones len i → Known (set numbers len v) tombstones (len + 1) (i + 1)
   unfolding viewAt
   known-member numbers tombstones len i v h t hv k =
-      let room : len < length numbers = omega (arith, k .0, known-room numbers tombstones len i h t k) in
-      (length-set numbers len v ∙ k .0, omega (arith, k .1), omega (arith, k .2), omega (arith, k .3, left-member kind sheet i e h t),
-      latest-above numbers len v tombstones (k .2) ∙ k .4,
-      latest-store numbers len v room
-      ∙ ap (λ xs. v ∷ xs) (k .5)
-      ∙ ap (λ x. x ∷ values (before i) ++ gone) hv
-      ∙ ap (λ rs. values rs ++ gone) (sym (earlier-next kind sheet a i (k .1) ∙ ap (λ b. onlyIf b (viewAt sheet i ∷ []) ++ before i) t)))
+      let room : len < length numbers = omega (arith, k .0, known-room numbers tombstones len i h t k) in (
+        length-set numbers len v ∙ k .0,
+        omega (arith, k .1),
+        omega (arith, k .2),
+        omega (arith, k .3, left-member kind sheet i e h t),
+        latest-above numbers len v tombstones (k .2) ∙ k .4,
+        latest-store numbers len v room
+            ∙ ap (λ xs. v ∷ xs) (k .5)
+            ∙ ap (λ x. x ∷ values (before i) ++ gone) hv
+            ∙ ap (λ rs. values rs ++ gone) (sym (earlier-next kind sheet a i (k .1) ∙ ap (λ b. onlyIf b (viewAt sheet i ∷ []) ++ before i) t)),
+      )
 
   pub known-gone :
       (numbers : List ℕ) (tombstones len i v : ℕ) (tombstoned : Bool) → Known numbers tombstones len i → tombstoned ≡ member v (latest numbers tombstones) →

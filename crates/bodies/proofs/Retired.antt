@@ -24,30 +24,30 @@ slot-retired false true v = refl
 slot-retired false false v = refl
 
 module _
-  (start : Rec ℕ Span → Bool)
-  (tomb : ℕ)
-  (tombstone : (r : Rec ℕ Span) → start r ≡ true → isTombstone r ≡ is tomb r)
-  (other : (r : Rec ℕ Span) → start r ≡ false → is tomb r ≡ false)
+    (start : Rec ℕ Span → Bool)
+    (tomb : ℕ)
+    (tombstone : (r : Rec ℕ Span) → start r ≡ true → isTombstone r ≡ is tomb r)
+    (other : (r : Rec ℕ Span) → start r ≡ false → is tomb r ≡ false)
   where
-  values-cons : (r : Rec ℕ Span) (rs : List (Rec ℕ Span)) (b : Bool) → is tomb r ≡ b → valuesOf tomb (r ∷ rs) ≡ onlyIf b (r .value ∷ []) ++ valuesOf tomb rs
-  unfolding valuesOf select
-  values-cons r rs true t = rw (t, select)
-  values-cons r rs false t = rw (t, select)
+    values-cons : (r : Rec ℕ Span) (rs : List (Rec ℕ Span)) (b : Bool) → is tomb r ≡ b → valuesOf tomb (r ∷ rs) ≡ onlyIf b (r .value ∷ []) ++ valuesOf tomb rs
+    unfolding valuesOf select
+    values-cons r rs true t = rw (t, select)
+    values-cons r rs false t = rw (t, select)
 
-  pub retired-values : (rs : List (Rec ℕ Span)) → retiredOrdinals (slots (items start rs)) ≡ valuesOf tomb rs
-  unfolding items flatMap valuesOf select
-  retired-values [] = refl
-  retired-values (r ∷ rs) = go (retired-values rs) (start r) refl
-    where
-      go :
-          retiredOrdinals (slots (items start rs)) ≡ valuesOf tomb rs → (b : Bool) → start r ≡ b →
-          retiredOrdinals (slots (items start (r ∷ rs))) ≡ valuesOf tomb (r ∷ rs)
-      go ih true st =
-          rw (st, items)
-          (flatMap-append retiredOrdinal (onlyIf (isMember r) (used (r .value) ∷ []) ++ onlyIf (isTombstone r) (retired (r .value) ∷ [])) (slots (items start rs))
-          ∙ ap₂ _++_ (slot-retired (isMember r) (isTombstone r) (r .value) ∙ ap (λ b. onlyIf b (r .value ∷ [])) (tombstone r st)) ih)
-          ∙ sym (values-cons r rs (is tomb r) refl)
-      go ih false st = rw (st, items) ih ∙ sym (values-cons r rs false (other r st))
+    pub retired-values : (rs : List (Rec ℕ Span)) → retiredOrdinals (slots (items start rs)) ≡ valuesOf tomb rs
+    unfolding items flatMap valuesOf select
+    retired-values [] = refl
+    retired-values (r ∷ rs) = go (retired-values rs) (start r) refl
+      where
+        go :
+            retiredOrdinals (slots (items start rs)) ≡ valuesOf tomb rs → (b : Bool) → start r ≡ b →
+            retiredOrdinals (slots (items start (r ∷ rs))) ≡ valuesOf tomb (r ∷ rs)
+        go ih true st =
+            rw (st, items)
+            (flatMap-append retiredOrdinal (onlyIf (isMember r) (used (r .value) ∷ []) ++ onlyIf (isTombstone r) (retired (r .value) ∷ [])) (slots (items start rs))
+            ∙ ap₂ _++_ (slot-retired (isMember r) (isTombstone r) (r .value) ∙ ap (λ b. onlyIf b (r .value ∷ [])) (tombstone r st)) ih)
+            ∙ sym (values-cons r rs (is tomb r) refl)
+        go ih false st = rw (st, items) ih ∙ sym (values-cons r rs false (other r st))
 
 or-false : (b : Bool) → (b || false) ≡ b
 or-false true = refl
@@ -77,8 +77,8 @@ pub retired-fields : (rs : List (Rec ℕ Span)) → retiredOrdinals (slots (item
 retired-fields =
     retired-values startsFieldItem Kind.FieldTombstone
     (λ r st.
-      let small : r .kind ≤ 13 = leb-true (r .kind) 13 (and-right (leb 11 (r .kind)) (leb (r .kind) 13) st) in
-      ap (λ b. is Kind.FieldTombstone r || b) (ne-eqb (r .kind) 15 (λ k. absurd (omega (arith, small, k)))) ∙ or-false (is Kind.FieldTombstone r))
+    let small : r .kind ≤ 13 = leb-true (r .kind) 13 (and-right (leb 11 (r .kind)) (leb (r .kind) 13) st) in
+    ap (λ b. is Kind.FieldTombstone r || b) (ne-eqb (r .kind) 15 (λ k. absurd (omega (arith, small, k)))) ∙ or-false (is Kind.FieldTombstone r))
     (λ r st. none-begins startsFieldItem Kind.FieldTombstone r (λ k. rw k) st)
 
 -- and those of another body
@@ -86,6 +86,6 @@ pub retired-items : (rs : List (Rec ℕ Span)) → retiredOrdinals (slots (items
 retired-items =
     retired-values startsItem Kind.Tombstone
     (λ r st.
-      let great : 14 ≤ r .kind = leb-true 14 (r .kind) (and-left (leb 14 (r .kind)) (leb (r .kind) 15) st) in
-      ap (λ b. b || is Kind.Tombstone r) (ne-eqb (r .kind) 12 (λ k. absurd (omega (arith, great, k)))))
+    let great : 14 ≤ r .kind = leb-true 14 (r .kind) (and-left (leb 14 (r .kind)) (leb (r .kind) 15) st) in
+    ap (λ b. b || is Kind.Tombstone r) (ne-eqb (r .kind) 12 (λ k. absurd (omega (arith, great, k)))))
     (λ r st. none-begins startsItem Kind.Tombstone r (λ k. rw k) st)

@@ -38,81 +38,81 @@ abbrev pub namesOf : List (Rec ℕ Span) → List ℕ
 namesOf = map (λ r. r .name)
 
 module _
-  (ctx : ValidationContext ℕ Span)
-  (s : Scheme)
-  (own : Item (Rec ℕ Span) → List (Found Span))
-  (start : Rec ℕ Span → Bool)
-  (kind : ℕ)
-  (sheet : List ℕ)
-  (a e : ℕ)
-  (gone : List ℕ)
+    (ctx : ValidationContext ℕ Span)
+    (s : Scheme)
+    (own : Item (Rec ℕ Span) → List (Found Span))
+    (start : Rec ℕ Span → Bool)
+    (kind : ℕ)
+    (sheet : List ℕ)
+    (a e : ℕ)
+    (gone : List ℕ)
   where
-  abbrev before : ℕ → List (Rec ℕ Span)
-  before i = earlier kind sheet a (i - a)
+    abbrev before : ℕ → List (Rec ℕ Span)
+    before i = earlier kind sheet a (i - a)
 
-  -- what is found from record i on
-  abbrev pub left : ℕ → List (Found Span)
-  left i = itemsViolations ctx s own gone (values (before i)) (namesOf (before i)) (items start (viewOf sheet i e))
+    -- what is found from record i on
+    abbrev pub left : ℕ → List (Found Span)
+    left i = itemsViolations ctx s own gone (values (before i)) (namesOf (before i)) (items start (viewOf sheet i e))
 
-  -- the item that begins at record i
-  abbrev pub itemAt : ℕ → Item (Rec ℕ Span)
-  itemAt i = record { head = viewAt sheet i; rest = front (λ r. not (start r)) (viewOf sheet (i + 1) e) }
+    -- the item that begins at record i
+    abbrev pub itemAt : ℕ → Item (Rec ℕ Span)
+    itemAt i = record { head = viewAt sheet i; rest = front (λ r. not (start r)) (viewOf sheet (i + 1) e) }
 
-  items-next : (i : ℕ) → i < e → start (viewAt sheet i) ≡ true → items start (viewOf sheet i e) ≡ itemAt i ∷ items start (viewOf sheet (i + 1) e)
-  unfolding items
-  items-next i h st = rw (view-cons sheet i e h, st, items)
+    items-next : (i : ℕ) → i < e → start (viewAt sheet i) ≡ true → items start (viewOf sheet i e) ≡ itemAt i ∷ items start (viewOf sheet (i + 1) e)
+    unfolding items
+    items-next i h st = rw (view-cons sheet i e h, st, items)
 
-  items-skip : (i : ℕ) → i < e → start (viewAt sheet i) ≡ false → items start (viewOf sheet i e) ≡ items start (viewOf sheet (i + 1) e)
-  unfolding items
-  items-skip i h st = rw (view-cons sheet i e h, st, items)
+    items-skip : (i : ℕ) → i < e → start (viewAt sheet i) ≡ false → items start (viewOf sheet i e) ≡ items start (viewOf sheet (i + 1) e)
+    unfolding items
+    items-skip i h st = rw (view-cons sheet i e h, st, items)
 
-  -- the items passed, after one more and after none
-  before-next : (i : ℕ) (b : Bool) → a ≤ i → is kind (viewAt sheet i) ≡ b → before (i + 1) ≡ onlyIf b (viewAt sheet i ∷ []) ++ before i
-  before-next i b le t = earlier-next kind sheet a i le ∙ ap (λ c. onlyIf c (viewAt sheet i ∷ []) ++ before i) t
+    -- the items passed, after one more and after none
+    before-next : (i : ℕ) (b : Bool) → a ≤ i → is kind (viewAt sheet i) ≡ b → before (i + 1) ≡ onlyIf b (viewAt sheet i ∷ []) ++ before i
+    before-next i b le t = earlier-next kind sheet a i le ∙ ap (λ c. onlyIf c (viewAt sheet i ∷ []) ++ before i) t
 
-  -- the violations at items after those records
-  abbrev after : List (Rec ℕ Span) → List (Item (Rec ℕ Span)) → List (Found Span)
-  after rs its = itemsViolations ctx s own gone (values rs) (namesOf rs) its
+    -- the violations at items after those records
+    abbrev after : List (Rec ℕ Span) → List (Item (Rec ℕ Span)) → List (Found Span)
+    after rs its = itemsViolations ctx s own gone (values rs) (namesOf rs) its
 
-  after-member :
-      (rs : List (Rec ℕ Span)) (it : Item (Rec ℕ Span)) (its : List (Item (Rec ℕ Span))) → isMember (it .head) ≡ true →
-      after rs (it ∷ its) ≡ memberViolations ctx s gone (values rs) (namesOf rs) (it .head) ++ own it ++ after (it .head ∷ rs) its
-  unfolding itemsViolations
-  after-member rs it its mem = rw (mem, itemsViolations)
+    after-member :
+        (rs : List (Rec ℕ Span)) (it : Item (Rec ℕ Span)) (its : List (Item (Rec ℕ Span))) → isMember (it .head) ≡ true →
+        after rs (it ∷ its) ≡ memberViolations ctx s gone (values rs) (namesOf rs) (it .head) ++ own it ++ after (it .head ∷ rs) its
+    unfolding itemsViolations
+    after-member rs it its mem = rw (mem, itemsViolations)
 
-  after-other :
-      (rs : List (Rec ℕ Span)) (it : Item (Rec ℕ Span)) (its : List (Item (Rec ℕ Span))) → isMember (it .head) ≡ false →
-      after rs (it ∷ its) ≡ own it ++ after rs its
-  unfolding itemsViolations
-  after-other rs it its mem = rw (mem, itemsViolations)
+    after-other :
+        (rs : List (Rec ℕ Span)) (it : Item (Rec ℕ Span)) (its : List (Item (Rec ℕ Span))) → isMember (it .head) ≡ false →
+        after rs (it ∷ its) ≡ own it ++ after rs its
+    unfolding itemsViolations
+    after-other rs it its mem = rw (mem, itemsViolations)
 
-  pub turn-member :
-      (i : ℕ) → a ≤ i → i < e → start (viewAt sheet i) ≡ true → isMember (viewAt sheet i) ≡ true → is kind (viewAt sheet i) ≡ true →
-      left i
-      ≡ memberViolations ctx s gone (values (before i)) (namesOf (before i)) (viewAt sheet i)
-      ++ own (itemAt i)
-      ++ left (i + 1)
-  turn-member i le h st mem t =
-      ap (after (before i)) (items-next i h st)
-      ∙ after-member (before i) (itemAt i) (items start (viewOf sheet (i + 1) e)) mem
-      ∙ ap (λ rs. memberViolations ctx s gone (values (before i)) (namesOf (before i)) (viewAt sheet i)
-      ++ own (itemAt i) ++ after rs (items start (viewOf sheet (i + 1) e)))
-      (sym (before-next i true le t))
+    pub turn-member :
+        (i : ℕ) → a ≤ i → i < e → start (viewAt sheet i) ≡ true → isMember (viewAt sheet i) ≡ true → is kind (viewAt sheet i) ≡ true →
+        left i
+        ≡ memberViolations ctx s gone (values (before i)) (namesOf (before i)) (viewAt sheet i)
+        ++ own (itemAt i)
+        ++ left (i + 1)
+    turn-member i le h st mem t =
+        ap (after (before i)) (items-next i h st)
+        ∙ after-member (before i) (itemAt i) (items start (viewOf sheet (i + 1) e)) mem
+        ∙ ap (λ rs. memberViolations ctx s gone (values (before i)) (namesOf (before i)) (viewAt sheet i)
+        ++ own (itemAt i) ++ after rs (items start (viewOf sheet (i + 1) e)))
+        (sym (before-next i true le t))
 
-  pub turn-other :
-      (i : ℕ) → a ≤ i → i < e → start (viewAt sheet i) ≡ true → isMember (viewAt sheet i) ≡ false → is kind (viewAt sheet i) ≡ false →
-      left i ≡ own (itemAt i) ++ left (i + 1)
-  turn-other i le h st mem t =
-      ap (after (before i)) (items-next i h st)
-      ∙ after-other (before i) (itemAt i) (items start (viewOf sheet (i + 1) e)) mem
-      ∙ ap (λ rs. own (itemAt i) ++ after rs (items start (viewOf sheet (i + 1) e))) (sym (before-next i false le t))
+    pub turn-other :
+        (i : ℕ) → a ≤ i → i < e → start (viewAt sheet i) ≡ true → isMember (viewAt sheet i) ≡ false → is kind (viewAt sheet i) ≡ false →
+        left i ≡ own (itemAt i) ++ left (i + 1)
+    turn-other i le h st mem t =
+        ap (after (before i)) (items-next i h st)
+        ∙ after-other (before i) (itemAt i) (items start (viewOf sheet (i + 1) e)) mem
+        ∙ ap (λ rs. own (itemAt i) ++ after rs (items start (viewOf sheet (i + 1) e))) (sym (before-next i false le t))
 
-  pub turn-inner :
-      (i : ℕ) → a ≤ i → i < e → start (viewAt sheet i) ≡ false → is kind (viewAt sheet i) ≡ false → left i ≡ left (i + 1)
-  turn-inner i le h st t =
-      ap (after (before i)) (items-skip i h st)
-      ∙ ap (λ rs. after rs (items start (viewOf sheet (i + 1) e))) (sym (before-next i false le t))
+    pub turn-inner :
+        (i : ℕ) → a ≤ i → i < e → start (viewAt sheet i) ≡ false → is kind (viewAt sheet i) ≡ false → left i ≡ left (i + 1)
+    turn-inner i le h st t =
+        ap (after (before i)) (items-skip i h st)
+        ∙ ap (λ rs. after rs (items start (viewOf sheet (i + 1) e))) (sym (before-next i false le t))
 
-  pub turn-none : (i : ℕ) → e ≤ i → left i ≡ []
-  unfolding items itemsViolations
-  turn-none i h = rw (view-none sheet i e h)
+    pub turn-none : (i : ℕ) → e ≤ i → left i ≡ []
+    unfolding items itemsViolations
+    turn-none i h = rw (view-none sheet i e h)

@@ -40,101 +40,103 @@ other-member r st t =
     rw (t, ne-eqb (r .kind) 11 (λ k. absurd (omega (arith, great, k))))
 
 module _
-  (ctx : ValidationContext ℕ Span)
-  (scheme : Scheme)
-  (plain : scheme .renamed ≡ [])
-  (own : Item (Rec ℕ Span) → List (Found Span))
-  (nothing : (it : Item (Rec ℕ Span)) → is Kind.Variant (it .head) ≡ false → own it ≡ [])
-  (sheet : List ℕ)
-  (a e : ℕ)
+    (ctx : ValidationContext ℕ Span)
+    (scheme : Scheme)
+    (plain : scheme .renamed ≡ [])
+    (own : Item (Rec ℕ Span) → List (Found Span))
+    (nothing : (it : Item (Rec ℕ Span)) → is Kind.Variant (it .head) ≡ false → own it ≡ [])
+    (sheet : List ℕ)
+    (a e : ℕ)
   where
-  abbrev tombs : List ℕ
-  tombs = gone 14 15 sheet a e
+    abbrev tombs : List ℕ
+    tombs = gone 14 15 sheet a e
 
-  abbrev at : ℕ → Rec ℕ Span
-  at i = viewAt sheet i
+    abbrev at : ℕ → Rec ℕ Span
+    at i = viewAt sheet i
 
-  abbrev still : ℕ → List (Found Span)
-  still i = left ctx scheme own startsItem 14 sheet a e tombs i
+    abbrev still : ℕ → List (Found Span)
+    still i = left ctx scheme own startsItem 14 sheet a e tombs i
 
-  abbrev variants : ℕ → List (Rec ℕ Span)
-  variants i = before 14 15 sheet a e i
+    abbrev variants : ℕ → List (Rec ℕ Span)
+    variants i = before 14 15 sheet a e i
 
-  -- before record i of the body
-  abbrev pub VariantsKnown : ℕ → List ℕ → Seen → State → State → ℕ → Type 0
-  VariantsKnown tombstones list₀ seen s₀ s i =
-      (length (s .0) ≡ length list₀)
-      × Known 14 15 sheet a e (seen .ordinals) tombstones (seen .len) i
-      × (pushFound (still i) s ≡ pushFound (listViolations ctx scheme own (bodyItems (viewOf sheet a e))) s₀)
+    -- before record i of the body
+    abbrev pub VariantsKnown : ℕ → Seen → State → State → ℕ → Type 0
+    VariantsKnown tombstones seen s₀ s i =
+        (length (s .0) ≡ length (s₀ .0))
+        × Known 14 15 sheet a e (seen .ordinals) tombstones (seen .len) i
+        × (pushFound (still i) s ≡ pushFound (listViolations ctx scheme own (bodyItems (viewOf sheet a e))) s₀)
 
-  variants-start : still a ≡ listViolations ctx scheme own (bodyItems (viewOf sheet a e))
-  unfolding earlier
-  variants-start =
-      let none : a - a ≡ 0 = omega arith in
-      rw none (ap (λ xs. itemsViolations ctx scheme own xs [] [] (items startsItem (viewOf sheet a e))) (sym (retired-items (viewOf sheet a e))))
+    variants-start : still a ≡ listViolations ctx scheme own (bodyItems (viewOf sheet a e))
+    unfolding earlier
+    variants-start =
+        let none : a - a ≡ 0 = omega arith in
+        rw none (ap (λ xs. itemsViolations ctx scheme own xs [] [] (items startsItem (viewOf sheet a e))) (sym (retired-items (viewOf sheet a e))))
 
-  pub variants-none :
-      (tombstones : ℕ) (ordinals : List ℕ) (s : State) → e - a ≤ 1024 → length ordinals ≡ 1024 →
-      latest ordinals tombstones ≡ valuesOf 15 (viewOf sheet a e) →
-      VariantsKnown tombstones (s .0) (record { ordinals = ordinals; len = tombstones }) s s a
-  variants-none tombstones ordinals s small size h =
-      (refl, known-start 14 15 sheet a e ordinals tombstones (λ k. absurd (omega (arith, k))) small size h, ap (λ fs. pushFound fs s) variants-start)
+    pub variants-none :
+        (tombstones : ℕ) (ordinals : List ℕ) (s : State) → e - a ≤ 1024 → length ordinals ≡ 1024 →
+        latest ordinals tombstones ≡ valuesOf 15 (viewOf sheet a e) →
+        VariantsKnown tombstones (record { ordinals = ordinals; len = tombstones }) s s a
+    variants-none tombstones ordinals s small size h =
+        (refl, known-start 14 15 sheet a e ordinals tombstones (λ k. absurd (omega (arith, k))) small size h, ap (λ fs. pushFound fs s) variants-start)
 
-  other-left : (i : ℕ) → a ≤ i → i < e → is Kind.Variant (at i) ≡ false → still i ≡ still (i + 1)
-  other-left i le h t = go (startsItem (at i)) refl
-    where
-      go : (b : Bool) → startsItem (at i) ≡ b → still i ≡ still (i + 1)
-      go true st =
-          turn-other ctx scheme own startsItem 14 sheet a e tombs i le h st (other-member (at i) st t) t
-          ∙ ap (λ fs. fs ++ still (i + 1)) (nothing (itemAt ctx scheme own startsItem 14 sheet a e tombs i) t)
-      go false st = turn-inner ctx scheme own startsItem 14 sheet a e tombs i le h st t
+    other-left : (i : ℕ) → a ≤ i → i < e → is Kind.Variant (at i) ≡ false → still i ≡ still (i + 1)
+    other-left i le h t = go (startsItem (at i)) refl
+      where
+        go : (b : Bool) → startsItem (at i) ≡ b → still i ≡ still (i + 1)
+        go true st =
+            turn-other ctx scheme own startsItem 14 sheet a e tombs i le h st (other-member (at i) st t) t
+            ∙ ap (λ fs. fs ++ still (i + 1)) (nothing (itemAt ctx scheme own startsItem 14 sheet a e tombs i) t)
+        go false st = turn-inner ctx scheme own startsItem 14 sheet a e tombs i le h st t
 
-  -- a record that is no variant
-  pub variants-other :
-      (tombstones : ℕ) (list₀ : List ℕ) (seen : Seen) (s₀ s : State) (i k : ℕ) → VariantsKnown tombstones list₀ seen s₀ s i → i < e →
-      k ≡ kindIn (recordBytes sheet i) → (k ≡ 14 → ⊥) → VariantsKnown tombstones list₀ seen s₀ s (i + 1)
-  variants-other tombstones list₀ seen s₀ s i k known h hk ne =
-      let test : is Kind.Variant (at i) ≡ false = kind-not sheet i k 14 hk ne in
-      (known .0,
-      known-other 14 15 sheet a e (seen .ordinals) tombstones (seen .len) i h test (known .1),
-      ap (λ fs. pushFound fs s) (sym (other-left i (known .1 .1) h test)) ∙ known .2)
+    -- a record that is no variant
+    pub variants-other :
+        (tombstones : ℕ) (seen : Seen) (s₀ s : State) (i k : ℕ) → VariantsKnown tombstones seen s₀ s i → i < e →
+        k ≡ kindIn (recordBytes sheet i) → (k ≡ 14 → ⊥) → VariantsKnown tombstones seen s₀ s (i + 1)
+    variants-other tombstones seen s₀ s i k known h hk ne =
+        let test : is Kind.Variant (at i) ≡ false = kind-not sheet i k 14 hk ne in (
+          known .0,
+          known-other 14 15 sheet a e (seen .ordinals) tombstones (seen .len) i h test (known .1),
+          ap (λ fs. pushFound fs s) (sym (other-left i (known .1 .1) h test)) ∙ known .2,
+        )
 
-  -- no name is asked for
-  names-free : (tombstoned met b c : Bool) (r : Rec ℕ Span) → memberFound scheme tombstoned met b r ≡ memberFound scheme tombstoned met c r
-  unfolding memberFound flatMap
-  names-free tombstoned met b c r = rw plain refl
+    -- no name is asked for
+    names-free : (tombstoned met b c : Bool) (r : Rec ℕ Span) → memberFound scheme tombstoned met b r ≡ memberFound scheme tombstoned met c r
+    unfolding memberFound flatMap
+    names-free tombstoned met b c r = rw plain refl
 
-  -- a variant
-  pub variants-variant :
-      (tombstones : ℕ) (list₀ : List ℕ) (seen : Seen) (s₀ s t : State) (i k ordinal : ℕ) (tombstoned met : Bool) →
-      VariantsKnown tombstones list₀ seen s₀ s i → i < e → k ≡ kindIn (recordBytes sheet i) → k ≡ 14 → ordinal ≡ valueIn (recordBytes sheet i) →
-      tombstoned ≡ member ordinal (latest (seen .ordinals) tombstones) → met ≡ member ordinal (latest (seen .ordinals) (seen .len)) →
-      length (t .0) ≡ length (s .0) →
-      t ≡ pushFound (memberFound scheme tombstoned met false (at i) ++ own (itemAt ctx scheme own startsItem 14 sheet a e tombs i)) s →
-      VariantsKnown tombstones list₀ (record { ordinals = set (seen .ordinals) (seen .len) ordinal; len = seen .len + 1 }) s₀ t (i + 1)
-  unfolding viewAt
-  variants-variant tombstones list₀ seen s₀ s t i k ordinal tombstoned met known h hk eq ho ht hm size hs =
-      let test : is Kind.Variant (at i) ≡ true = kind-is sheet i k 14 hk eq in
-      let le : a ≤ i = known .1 .1 in
-      let again : Bool = anyOf (ctx .same (at i .name)) (namesOf (variants i)) in
-      let dead : tombstoned ≡ member (valueIn (recordBytes sheet i)) tombs =
-          known-gone 14 15 sheet a e (seen .ordinals) tombstones (seen .len) i ordinal tombstoned (known .1) ht ∙ ap (λ v. member v tombs) ho in
-      (size ∙ known .0,
-      known-member 14 15 sheet a e (seen .ordinals) tombstones (seen .len) i ordinal h test ho (known .1),
-      added _ _ _ s t _
-      (turn-member ctx scheme own startsItem 14 sheet a e tombs i le h (variant-starts (at i) test) (variant-member (at i) test) test
-      ∙ ap (λ fs. fs ++ own (itemAt ctx scheme own startsItem 14 sheet a e tombs i) ++ still (i + 1))
-      (sym (names-free tombstoned met false again (at i)
-      ∙ member-tests ctx scheme tombs (values (variants i)) (namesOf (variants i)) (at i) tombstoned met again dead
-      (known-met 14 15 sheet a e (seen .ordinals) tombstones (seen .len) i ordinal tombstoned met (known .1) ht hm
-      ∙ ap (λ v. not (member v tombs) && member v (values (variants i))) ho)
-      refl)))
-      hs (known .2))
+    -- a variant
+    pub variants-variant :
+        (tombstones : ℕ) (seen : Seen) (s₀ s t : State) (i k ordinal : ℕ) (tombstoned met : Bool) →
+        VariantsKnown tombstones seen s₀ s i → i < e → k ≡ kindIn (recordBytes sheet i) → k ≡ 14 → ordinal ≡ valueIn (recordBytes sheet i) →
+        tombstoned ≡ member ordinal (latest (seen .ordinals) tombstones) → met ≡ member ordinal (latest (seen .ordinals) (seen .len)) →
+        length (t .0) ≡ length (s .0) →
+        t ≡ pushFound (memberFound scheme tombstoned met false (at i) ++ own (itemAt ctx scheme own startsItem 14 sheet a e tombs i)) s →
+        VariantsKnown tombstones (record { ordinals = set (seen .ordinals) (seen .len) ordinal; len = seen .len + 1 }) s₀ t (i + 1)
+    unfolding viewAt
+    variants-variant tombstones seen s₀ s t i k ordinal tombstoned met known h hk eq ho ht hm size hs =
+        let test : is Kind.Variant (at i) ≡ true = kind-is sheet i k 14 hk eq in
+        let le : a ≤ i = known .1 .1 in
+        let again : Bool = anyOf (ctx .same (at i .name)) (namesOf (variants i)) in
+        let dead : tombstoned ≡ member (valueIn (recordBytes sheet i)) tombs =
+        known-gone 14 15 sheet a e (seen .ordinals) tombstones (seen .len) i ordinal tombstoned (known .1) ht ∙ ap (λ v. member v tombs) ho in (
+          size ∙ known .0,
+          known-member 14 15 sheet a e (seen .ordinals) tombstones (seen .len) i ordinal h test ho (known .1),
+          added _ _ _ s t _
+              (turn-member ctx scheme own startsItem 14 sheet a e tombs i le h (variant-starts (at i) test) (variant-member (at i) test) test
+              ∙ ap (λ fs. fs ++ own (itemAt ctx scheme own startsItem 14 sheet a e tombs i) ++ still (i + 1))
+              (sym (names-free tombstoned met false again (at i)
+              ∙ member-tests ctx scheme tombs (values (variants i)) (namesOf (variants i)) (at i) tombstoned met again dead
+              (known-met 14 15 sheet a e (seen .ordinals) tombstones (seen .len) i ordinal tombstoned met (known .1) ht hm
+              ∙ ap (λ v. not (member v tombs) && member v (values (variants i))) ho)
+              refl)))
+              hs (known .2),
+        )
 
-  pub variants-end :
-      (tombstones : ℕ) (list₀ : List ℕ) (seen : Seen) (s₀ s : State) (i : ℕ) → VariantsKnown tombstones list₀ seen s₀ s i → e ≤ i →
-      s ≡ pushFound (listViolations ctx scheme own (bodyItems (viewOf sheet a e))) s₀
-  variants-end tombstones list₀ seen s₀ s i known h =
-      sym (found-none s)
-      ∙ ap (λ fs. pushFound fs s) (sym (turn-none ctx scheme own startsItem 14 sheet a e tombs i h))
-      ∙ known .2
+    pub variants-end :
+        (tombstones : ℕ) (seen : Seen) (s₀ s : State) (i : ℕ) → VariantsKnown tombstones seen s₀ s i → e ≤ i →
+        s ≡ pushFound (listViolations ctx scheme own (bodyItems (viewOf sheet a e))) s₀
+    variants-end tombstones seen s₀ s i known h =
+        sym (found-none s)
+        ∙ ap (λ fs. pushFound fs s) (sym (turn-none ctx scheme own startsItem 14 sheet a e tombs i h))
+        ∙ known .2

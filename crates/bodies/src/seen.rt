@@ -31,7 +31,7 @@ pub fn contains(ordinals: &[u64; 1024], len: usize, ordinal: u64) -> bool
 // are.
 pub fn collect(sheet: &[u8], a: usize, e: usize, kind: u8, ordinals: &mut [u64; 1024]) -> usize
     requires { ⌜ (length (now ordinals) ≡ 1024) × (e - a ≤ 1024) ⌝ }
-    ensures { λ r. ⌜ (latest (now (ordinals .exit)) r ≡ valuesOf kind (viewOf (now (sheet .entry)) a e)) × (r ≤ e - a) ⌝ }
+    ensures { λ r. ⌜ (latest (now (ordinals .exit)) r ≡ valuesOf kind (viewOf (now (sheet .entry)) a e)) × (r ≤ e - a) × (length (now (ordinals .exit)) ≡ 1024) ⌝ }
 {
     let mut len = 0;
     let mut i = e;

@@ -1,0 +1,137 @@
+-- A run of records ends at the first record that is not of it: the records passed so far are the front of all, and what is left to pass is
+-- cut as all are.
+use Prim.Native.Nat.{ℕ, zero, suc, _+_, _-_, _<_, _≤_}
+use mathlib.Core.Path.{_≡_, refl, sym, ap, _∙_}
+use mathlib.Core.Bool.{Bool, true, false, not, _&&_, _||_}
+use mathlib.Core.List.{List, [], _∷_, _++_, append-nil, append-assoc}
+use native.Mathlib.Numerals.{add-one}
+use native.Mathlib.Omega.{arith}
+use lib.Dec.{leb, ltb, eqb}
+use borrow.Author.Tests.{leb-true, leb-false, not-true, not-false, lt-ltb, le-ltb}
+use Rattle.rules.specs.declared.span.Span.{Span}
+use Rattle.rules.specs.Words.{within, front, rest}
+use Rattle.rules.specs.Kind
+use Rattle.rules.specs.Record.{Rec, recordBytes, kindIn}
+use Rattle.names.specs.View.{viewAt, viewFrom, viewOf}
+use Rattle.types.proofs.Views.{view-cons, view-none}
+use Rattle.bodies.specs.declared.runs.Run.{Run}
+use Rattle.bodies.specs.declared.runs.Run.the-variants.{Front, Annotations, FieldType, FieldItem, Item}
+use Rattle.bodies.specs.Runs.{inRun, EndsAt}
+
+-- a number that is not between two bounds is under the one or over the other
+under : (a b : ℕ) → ltb b a ≡ not (leb a b)
+under a b = by (leb a b) refl
+  where
+    by : (t : Bool) → leb a b ≡ t → ltb b a ≡ not (leb a b)
+    by true h = rw (h, le-ltb b a (leb-true a b h))
+    by false h = rw (h, lt-ltb b a (leb-false a b h))
+
+either : (p q : Bool) → (not p || not q) ≡ not (p && q)
+either true q = refl
+either false q = refl
+
+outside : (low high n : ℕ) → (ltb n low || ltb high n) ≡ not (within low high n)
+outside low high n = rw (under low n, under n high) (either (leb low n) (leb n high))
+
+-- the kinds of each run
+module _ (run : Run) (sheet : List ℕ) (i k : ℕ) (read : k ≡ kindIn (recordBytes sheet i)) where
+  pub in-front : run ≡ Front → not (eqb k Kind.Head) ≡ inRun run (viewAt sheet i)
+  unfolding viewAt
+  in-front which = rw (which, read)
+
+  pub in-annotations : run ≡ Annotations → (leb Kind.Annotation k && leb k Kind.Argument) ≡ inRun run (viewAt sheet i)
+  unfolding viewAt
+  in-annotations which = rw (which, read)
+
+  pub in-type : (type : Bool) → run ≡ FieldType → type ≡ Kind.isType k → (eqb k Kind.BitName || type) ≡ inRun run (viewAt sheet i)
+  unfolding viewAt
+  in-type type which h = rw (which, h, read)
+
+  pub in-field-item : run ≡ FieldItem → (ltb k Kind.Field || ltb Kind.Invariant k) ≡ inRun run (viewAt sheet i)
+  unfolding viewAt
+  in-field-item which = rw (which, read) (outside Kind.Field Kind.Invariant (kindIn (recordBytes sheet i)))
+
+  pub in-item : run ≡ Item → (ltb k Kind.Variant || ltb Kind.Tombstone k) ≡ inRun run (viewAt sheet i)
+  unfolding viewAt
+  in-item which = rw (which, read) (outside Kind.Variant Kind.Tombstone (kindIn (recordBytes sheet i)))
+
+-- one record more
+view-last : (sheet : List ℕ) (n a : ℕ) → viewFrom sheet a (suc n) ≡ viewFrom sheet a n ++ viewAt sheet (a + n) ∷ []
+unfolding viewFrom
+view-last sheet zero a = let same : a + 0 ≡ a = omega arith in rw same
+view-last sheet (suc n) a = let same : a + suc n ≡ suc a + n = omega arith in rw same (ap (λ rs. viewAt sheet a ∷ rs) (view-last sheet n (suc a)))
+
+module _ {A : Type 0} (p : A → Bool) (x : A) (xs : List A) where
+  front-in : p x ≡ true → front p (x ∷ xs) ≡ x ∷ front p xs
+  unfolding front
+  front-in h = rw (front, h)
+
+  front-out : p x ≡ false → front p (x ∷ xs) ≡ []
+  unfolding front
+  front-out h = rw (front, h)
+
+  rest-in : p x ≡ true → rest p (x ∷ xs) ≡ rest p xs
+  unfolding rest
+  rest-in h = rw (rest, h)
+
+  rest-out : p x ≡ false → rest p (x ∷ xs) ≡ x ∷ xs
+  unfolding rest
+  rest-out h = rw (rest, h)
+
+module _ (run : Run) (sheet : List ℕ) (a e : ℕ) where
+  abbrev p : Rec ℕ Span → Bool
+  p = inRun run
+
+  -- the records from a up to i are of the run, and so the run goes on from i, or ends there, as it does among all records
+  pub record Passed (i : ℕ) : Type 0 where
+    pub least : a ≤ i
+    pub most : i - a ≤ e - a
+    pub before : front p (viewOf sheet a e) ≡ viewOf sheet a i ++ front p (viewOf sheet i e)
+    pub after : rest p (viewOf sheet a e) ≡ rest p (viewOf sheet i e)
+
+  pub none-passed : Passed a
+  unfolding viewFrom
+  none-passed =
+      let none : a - a ≡ 0 = omega arith in
+      record { least = omega arith; most = omega arith; before = rw none; after = refl }
+
+  module _ (i : ℕ) (passed : Passed i) where
+    pub passed-next : (here : Bool) → i < e → here ≡ p (viewAt sheet i) → not here ≡ false → Passed (i + 1)
+    passed-next here h read one =
+        let size : i + 1 - a ≡ suc (i - a) = omega arith in
+        let place : a + (i - a) ≡ i = omega arith in
+        let last : viewOf sheet a (i + 1) ≡ viewOf sheet a i ++ viewAt sheet i ∷ [] = rw (size, view-last sheet (i - a) a, place) in
+        let cons = view-cons sheet i e h in
+        let in-run : p (viewAt sheet i) ≡ true = sym read ∙ not-false here one in
+        let on = front-in p (viewAt sheet i) (viewOf sheet (i + 1) e) in-run in
+        record {
+          least = omega arith;
+          most = omega arith;
+          before = passed .before ∙ rw (cons, on, last, append-assoc);
+          after = passed .after ∙ rw (cons, rest-in p (viewAt sheet i) (viewOf sheet (i + 1) e) in-run);
+        }
+
+    pub passed-end : (here : Bool) → i < e → here ≡ p (viewAt sheet i) → not here ≡ true → EndsAt run sheet a e i × (i ≤ e)
+    unfolding EndsAt
+    passed-end here h read one =
+        let cons = view-cons sheet i e h in
+        let out : p (viewAt sheet i) ≡ false = sym read ∙ not-true here one in
+        let stop = front-out p (viewAt sheet i) (viewOf sheet (i + 1) e) out in (
+          (
+            sym (passed .before ∙ rw (cons, stop, append-nil)),
+            sym (passed .after ∙ rw (cons, rest-out p (viewAt sheet i) (viewOf sheet (i + 1) e) out)),
+          ),
+          omega arith,
+        )
+
+    pub passed-all : e ≤ i → EndsAt run sheet a e e × (e ≤ e)
+    unfolding EndsAt front rest
+    passed-all h =
+        let size : i - a ≡ e - a = omega arith in
+        let none = view-none sheet i e h in (
+          (
+            sym (passed .before ∙ rw (none, size, append-nil)),
+            view-none sheet e e (omega arith) ∙ sym (passed .after ∙ rw none),
+          ),
+          omega arith,
+        )

@@ -1,0 +1,43 @@
+// Where a run of records ends.
+ghost use mathlib.Core.Path.{_≡_};
+ghost use Prim.Native.Nat.{_≤_};
+ghost use Rattle.names.specs.View.{viewAt};
+ghost use Rattle.bodies.specs.Runs.{inRun, EndsAt};
+use sheet::kinds;
+
+// The records before the head, of a field's annotations, of its type, of an item of a field list after its first, of an item of another body after its first.
+pub enum Run {
+    Front,
+    Annotations,
+    FieldType,
+    FieldItem,
+    Item,
+}
+
+// Whether record `i` is one of the run.
+fn is_in(sheet: &[u8], run: Run, i: usize) -> bool
+    ensures { λ r. ⌜ r ≡ inRun run (viewAt (now (sheet .entry)) i) ⌝ }
+{
+    let kind = sheet::kind(sheet, i);
+    match run {
+        Run::Front => kind != kinds::HEAD,
+        Run::Annotations => (kinds::ANNOTATION <= kind) & (kind <= kinds::ARGUMENT),
+        Run::FieldType => (kind == kinds::BIT_NAME) | sheet::is_type(kind),
+        Run::FieldItem => (kind < kinds::FIELD) | (kinds::INVARIANT < kind),
+        Run::Item => (kind < kinds::VARIANT) | (kinds::TOMBSTONE < kind),
+    }
+}
+
+// The first record from `a` up to `e` that is not of the run.
+pub fn run_end(sheet: &[u8], run: Run, a: usize, e: usize) -> usize
+    ensures { λ r. ⌜ EndsAt run (now (sheet .entry)) a e r × (r ≤ e) ⌝ }
+{
+    let mut i = a;
+    while i < e {
+        if !is_in(sheet, run, i) {
+            return i;
+        }
+        i += 1;
+    }
+    e
+}
