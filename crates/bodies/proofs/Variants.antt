@@ -3,26 +3,30 @@ use Prim.Native.Nat.{ℕ, _+_, _-_, _≤_, _<_}
 use native.Mathlib.Omega.{arith}
 use mathlib.Core.Path.{_≡_, refl, sym, ap, ap₂, _∙_}
 use mathlib.Core.Bool.{Bool, true, false, not, _&&_, _||_}
-use mathlib.Core.List.{List, [], _∷_, _++_, flatMap}
+use mathlib.Core.List.{List, [], _∷_, _++_, append-nil, flatMap}
 use lib.ListN.{length, set}
 use lib.Dec.{eqb, leb}
 use borrow.Author.Tests.{eqb-true, ne-eqb, leb-true}
 use Rattle.rules.specs.declared.span.Span.{Span}
-use Rattle.rules.specs.Words.{onlyIf, anyOf, member, Item, items}
+use Rattle.rules.specs.Words.{onlyIf, anyOf, member, front, Item, items}
 use Rattle.rules.specs.Kind
 use Rattle.rules.specs.Record.{Rec, is, kindIn, valueIn, recordBytes}
 use Rattle.rules.specs.Context.{ValidationContext}
 use Rattle.rules.specs.Grammar.{startsItem}
 use Rattle.rules.specs.Rule.{Found}
-use Rattle.rules.specs.Bodies.{Scheme, foundAll, isMember, itemsViolations, listViolations, bodyItems}
-use Rattle.names.specs.View.{viewAt, viewOf}
+use Rattle.rules.specs.Bodies.{Scheme, enumScheme, unionScheme, isMember, itemsViolations, listViolations, bodyItems, fieldListViolations, unionViolations}
+use Rattle.names.specs.View.{viewAt, viewOf, contextBy}
 use Rattle.diagnostic.specs.Push.{State, pushFound}
-use Rattle.diagnostic.proofs.FoundPushes.{found-none}
+use Rattle.diagnostic.proofs.FoundPushes.{found-none, found-then}
 use Rattle.bodies.specs.declared.seen.Seen.{Seen}
 use Rattle.bodies.specs.Seen.{latest}
 use Rattle.bodies.specs.Earlier.{valuesOf, earlier}
-use Rattle.bodies.specs.Ordinal.{memberFound}
-use Rattle.bodies.proofs.Passing.{values, gone, before, Known, known-start, known-other, known-member, known-gone, known-met}
+use Rattle.bodies.specs.declared.runs.Run.the-variants as Run
+use Rattle.bodies.specs.Runs.{EndsAt}
+use Rattle.bodies.specs.Items.{variantFound}
+use Rattle.bodies.specs.Ordinal.{pushOrdinal, memberFound}
+use Rattle.bodies.proofs.Ordinals.{union-members}
+use Rattle.bodies.proofs.Passing.{values, gone, before, Known, known-start, known-other, known-room, known-member, known-gone, known-met}
 use Rattle.bodies.proofs.Turns.{namesOf, added, kind-is, kind-not, left, itemAt, turn-member, turn-other, turn-inner, turn-none}
 use Rattle.bodies.proofs.Retired.{and-left, retired-items}
 use Rattle.bodies.proofs.FieldTurns.{member-tests}
@@ -133,6 +137,13 @@ module _
               hs (known .2),
         )
 
+    -- there is room for one variant more
+    pub variants-room :
+        (tombstones : ℕ) (seen : Seen) (s₀ s : State) (i k : ℕ) → VariantsKnown tombstones seen s₀ s i → i < e → k ≡ kindIn (recordBytes sheet i) → k ≡ 14 →
+        seen .len < 1024
+    variants-room tombstones seen s₀ s i k known h hk eq =
+        known-room 14 15 sheet a e (seen .ordinals) tombstones (seen .len) i h (kind-is sheet i k 14 hk eq) (known .1)
+
     pub variants-end :
         (tombstones : ℕ) (seen : Seen) (s₀ s : State) (i : ℕ) → VariantsKnown tombstones seen s₀ s i → e ≤ i →
         s ≡ pushFound (listViolations ctx scheme own (bodyItems (viewOf sheet a e))) s₀
@@ -140,3 +151,102 @@ module _
         sym (found-none s)
         ∙ ap (λ fs. pushFound fs s) (sym (turn-none ctx scheme own startsItem 14 sheet a e tombs i h))
         ∙ known .2
+
+module _ (table sheet : List ℕ) (a e : ℕ) where
+  abbrev ctx : ValidationContext ℕ Span
+  ctx = contextBy table sheet
+
+  -- an enum's variants have nothing of their own
+  abbrev enumOwn : Item (Rec ℕ Span) → List (Found Span)
+  enumOwn it = []
+
+  abbrev enumNothing : (it : Item (Rec ℕ Span)) → is Kind.Variant (it .head) ≡ false → enumOwn it ≡ []
+  enumNothing it h = refl
+
+  abbrev pub EnumKnown : ℕ → Seen → State → State → ℕ → Type 0
+  EnumKnown = VariantsKnown ctx enumScheme refl enumOwn enumNothing sheet a e
+
+  pub enum-none :
+      (tombstones : ℕ) (ordinals : List ℕ) (s : State) → e - a ≤ 1024 → length ordinals ≡ 1024 →
+      latest ordinals tombstones ≡ valuesOf 15 (viewOf sheet a e) → EnumKnown tombstones (record { ordinals = ordinals; len = tombstones }) s s a
+  enum-none = variants-none ctx enumScheme refl enumOwn enumNothing sheet a e
+
+  pub enum-other :
+      (tombstones : ℕ) (seen : Seen) (s₀ s : State) (i k : ℕ) → EnumKnown tombstones seen s₀ s i → i < e →
+      k ≡ kindIn (recordBytes sheet i) → (k ≡ 14 → ⊥) → EnumKnown tombstones seen s₀ s (i + 1)
+  enum-other = variants-other ctx enumScheme refl enumOwn enumNothing sheet a e
+
+  pub enum-room :
+      (tombstones : ℕ) (seen : Seen) (s₀ s : State) (i k : ℕ) → EnumKnown tombstones seen s₀ s i → i < e → k ≡ kindIn (recordBytes sheet i) → k ≡ 14 →
+      seen .len < 1024
+  enum-room = variants-room ctx enumScheme refl enumOwn enumNothing sheet a e
+
+  pub enum-variant :
+      (tombstones : ℕ) (seen : Seen) (s₀ s t : State) (i k ordinal : ℕ) (tombstoned met : Bool) → EnumKnown tombstones seen s₀ s i → i < e →
+      k ≡ kindIn (recordBytes sheet i) → k ≡ 14 → ordinal ≡ valueIn (recordBytes sheet i) →
+      tombstoned ≡ member ordinal (latest (seen .ordinals) tombstones) → met ≡ member ordinal (latest (seen .ordinals) (seen .len)) →
+      length (t .0) ≡ length (s .0) → t ≡ pushFound (memberFound enumScheme tombstoned met false (viewAt sheet i)) s →
+      EnumKnown tombstones (record { ordinals = set (seen .ordinals) (seen .len) ordinal; len = seen .len + 1 }) s₀ t (i + 1)
+  enum-variant tombstones seen s₀ s t i k ordinal tombstoned met known h hk eq ho ht hm size hs =
+      variants-variant ctx enumScheme refl enumOwn enumNothing sheet a e tombstones seen s₀ s t i k ordinal tombstoned met known h hk eq ho ht hm size
+      (hs ∙ ap (λ fs. pushFound fs s) (sym (append-nil (memberFound enumScheme tombstoned met false (viewAt sheet i)))))
+
+  pub enum-end :
+      (tombstones : ℕ) (seen : Seen) (s₀ s : State) (i : ℕ) → EnumKnown tombstones seen s₀ s i → e ≤ i →
+      s ≡ pushFound (listViolations ctx enumScheme (λ it. []) (bodyItems (viewOf sheet a e))) s₀
+  enum-end = variants-end ctx enumScheme refl enumOwn enumNothing sheet a e
+
+  -- a union's have fields
+  abbrev unionOwn : Item (Rec ℕ Span) → List (Found Span)
+  unionOwn it = onlyIf (is Kind.Variant (it .head)) (fieldListViolations ctx (it .rest))
+
+  pub unionNothing : (it : Item (Rec ℕ Span)) → is Kind.Variant (it .head) ≡ false → unionOwn it ≡ []
+  unionNothing it h = ap (λ b. onlyIf b (fieldListViolations ctx (it .rest))) h
+
+  abbrev pub UnionKnown : ℕ → Seen → State → State → ℕ → Type 0
+  UnionKnown = VariantsKnown ctx unionScheme refl unionOwn unionNothing sheet a e
+
+  pub union-none :
+      (tombstones : ℕ) (ordinals : List ℕ) (s : State) → e - a ≤ 1024 → length ordinals ≡ 1024 →
+      latest ordinals tombstones ≡ valuesOf 15 (viewOf sheet a e) → UnionKnown tombstones (record { ordinals = ordinals; len = tombstones }) s s a
+  union-none = variants-none ctx unionScheme refl unionOwn unionNothing sheet a e
+
+  pub union-other :
+      (tombstones : ℕ) (seen : Seen) (s₀ s : State) (i k : ℕ) → UnionKnown tombstones seen s₀ s i → i < e →
+      k ≡ kindIn (recordBytes sheet i) → (k ≡ 14 → ⊥) → UnionKnown tombstones seen s₀ s (i + 1)
+  union-other = variants-other ctx unionScheme refl unionOwn unionNothing sheet a e
+
+  -- the ordinal, and then the fields
+  pub variant-found :
+      (i end : ℕ) (tombstoned met : Bool) (s t u : State) →
+      t ≡ pushOrdinal (record { greatest = 65535; «too_large» = 43; reused = 42; duplicate = 42 }) sheet i tombstoned met s →
+      EndsAt Run.Item sheet (i + 1) e end → u ≡ pushFound (fieldListViolations ctx (viewOf sheet (i + 1) end)) t →
+      u ≡ pushFound (variantFound table sheet i e tombstoned met) s
+  unfolding variantFound EndsAt
+  variant-found i end tombstoned met s t u ht he hu =
+      found-then _ _ s t u (union-members sheet i tombstoned met s t ht) (hu ∙ ap (λ rs. pushFound (fieldListViolations ctx rs) t) (he .0))
+
+  pub union-room :
+      (tombstones : ℕ) (seen : Seen) (s₀ s : State) (i k : ℕ) → UnionKnown tombstones seen s₀ s i → i < e → k ≡ kindIn (recordBytes sheet i) → k ≡ 14 →
+      seen .len < 1024
+  union-room = variants-room ctx unionScheme refl unionOwn unionNothing sheet a e
+
+  pub union-variant :
+      (tombstones : ℕ) (seen : Seen) (s₀ s t : State) (i k ordinal : ℕ) (tombstoned met : Bool) → UnionKnown tombstones seen s₀ s i → i < e →
+      k ≡ kindIn (recordBytes sheet i) → k ≡ 14 → ordinal ≡ valueIn (recordBytes sheet i) →
+      tombstoned ≡ member ordinal (latest (seen .ordinals) tombstones) → met ≡ member ordinal (latest (seen .ordinals) (seen .len)) →
+      length (t .0) ≡ length (s .0) → t ≡ pushFound (variantFound table sheet i e tombstoned met) s →
+      UnionKnown tombstones (record { ordinals = set (seen .ordinals) (seen .len) ordinal; len = seen .len + 1 }) s₀ t (i + 1)
+  unfolding variantFound
+  union-variant tombstones seen s₀ s t i k ordinal tombstoned met known h hk eq ho ht hm size hs =
+      variants-variant ctx unionScheme refl unionOwn unionNothing sheet a e tombstones seen s₀ s t i k ordinal tombstoned met known h hk eq ho ht hm size
+      (hs
+      ∙ ap (λ b. pushFound (memberFound unionScheme tombstoned met false (viewAt sheet i)
+      ++ onlyIf b (fieldListViolations ctx (front (λ r. not (startsItem r)) (viewOf sheet (i + 1) e)))) s)
+      (sym (kind-is sheet i k 14 hk eq)))
+
+  pub union-end :
+      (tombstones : ℕ) (seen : Seen) (s₀ s : State) (i : ℕ) → UnionKnown tombstones seen s₀ s i → e ≤ i →
+      s ≡ pushFound (unionViolations ctx (viewOf sheet a e)) s₀
+  unfolding unionViolations
+  union-end = variants-end ctx unionScheme refl unionOwn unionNothing sheet a e

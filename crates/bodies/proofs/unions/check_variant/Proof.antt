@@ -1,0 +1,17 @@
+-- The rules of a variant's ordinal, and then its fields.
+use borrow.Author.Needs.{needs}
+use Rattle.bodies.proofs.Variants.{variant-found}
+use Rattle.bodies.proofs.unions.check_variant.Statement.{statement}
+use Rattle.bodies.proofs.unions.check_variant.Tie as tie
+
+pub check-variant-spec : {M : Type 1} → statement M
+check-variant-spec =
+    tie.close
+    (tie.spec
+    (λ c κs. search needs)
+    (λ c. search needs)
+    (λ c κs. search needs)
+    (λ c. search needs)
+    (λ c κs. search needs)
+    (λ c. search needs)
+    (λ c. search variant-found))
