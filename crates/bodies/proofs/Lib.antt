@@ -1,7 +1,12 @@
+pub mod Backings
+pub mod Bits
+pub mod BodyItems
 pub mod Collecting
+pub mod Declarations
 pub mod FieldList
 pub mod FieldParts
 pub mod FieldTurns
+pub mod Newtypes
 pub mod Ordinals
 pub mod Passing
 pub mod Retired

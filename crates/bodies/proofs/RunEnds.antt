@@ -4,7 +4,6 @@ use Prim.Native.Nat.{ℕ, zero, suc, _+_, _-_, _<_, _≤_}
 use mathlib.Core.Path.{_≡_, refl, sym, ap, _∙_}
 use mathlib.Core.Bool.{Bool, true, false, not, _&&_, _||_}
 use mathlib.Core.List.{List, [], _∷_, _++_, append-nil, append-assoc}
-use native.Mathlib.Numerals.{add-one}
 use native.Mathlib.Omega.{arith}
 use lib.Dec.{leb, ltb, eqb}
 use borrow.Author.Tests.{leb-true, leb-false, not-true, not-false, lt-ltb, le-ltb}
@@ -61,28 +60,11 @@ unfolding viewFrom
 view-last sheet zero a = let same : a + 0 ≡ a = omega arith in rw same
 view-last sheet (suc n) a = let same : a + suc n ≡ suc a + n = omega arith in rw same (ap (λ rs. viewAt sheet a ∷ rs) (view-last sheet n (suc a)))
 
-module _ {A : Type 0} (p : A → Bool) (x : A) (xs : List A) where
-  front-in : p x ≡ true → front p (x ∷ xs) ≡ x ∷ front p xs
-  unfolding front
-  front-in h = rw (front, h)
-
-  front-out : p x ≡ false → front p (x ∷ xs) ≡ []
-  unfolding front
-  front-out h = rw (front, h)
-
-  rest-in : p x ≡ true → rest p (x ∷ xs) ≡ rest p xs
-  unfolding rest
-  rest-in h = rw (rest, h)
-
-  rest-out : p x ≡ false → rest p (x ∷ xs) ≡ x ∷ xs
-  unfolding rest
-  rest-out h = rw (rest, h)
-
 module _ (run : Run) (sheet : List ℕ) (a e : ℕ) where
   abbrev p : Rec ℕ Span → Bool
   p = inRun run
 
-  -- the records from a up to i are of the run, and so the run goes on from i, or ends there, as it does among all records
+  -- the records from a up to i are of the run, and so what follows them is cut where all are
   pub record Passed (i : ℕ) : Type 0 where
     pub least : a ≤ i
     pub most : i - a ≤ e - a
@@ -97,30 +79,26 @@ module _ (run : Run) (sheet : List ℕ) (a e : ℕ) where
 
   module _ (i : ℕ) (passed : Passed i) where
     pub passed-next : (here : Bool) → i < e → here ≡ p (viewAt sheet i) → not here ≡ false → Passed (i + 1)
+    unfolding front rest
     passed-next here h read one =
         let size : i + 1 - a ≡ suc (i - a) = omega arith in
         let place : a + (i - a) ≡ i = omega arith in
         let last : viewOf sheet a (i + 1) ≡ viewOf sheet a i ++ viewAt sheet i ∷ [] = rw (size, view-last sheet (i - a) a, place) in
         let cons = view-cons sheet i e h in
-        let in-run : p (viewAt sheet i) ≡ true = sym read ∙ not-false here one in
-        let on = front-in p (viewAt sheet i) (viewOf sheet (i + 1) e) in-run in
+        let of : p (viewAt sheet i) ≡ true = sym read ∙ not-false here one in
         record {
           least = omega arith;
           most = omega arith;
-          before = passed .before ∙ rw (cons, on, last, append-assoc);
-          after = passed .after ∙ rw (cons, rest-in p (viewAt sheet i) (viewOf sheet (i + 1) e) in-run);
+          before = passed .before ∙ rw (cons, of, front, last, append-assoc);
+          after = passed .after ∙ rw (cons, of, rest);
         }
 
     pub passed-end : (here : Bool) → i < e → here ≡ p (viewAt sheet i) → not here ≡ true → EndsAt run sheet a e i × (i ≤ e)
-    unfolding EndsAt
+    unfolding EndsAt front rest
     passed-end here h read one =
         let cons = view-cons sheet i e h in
-        let out : p (viewAt sheet i) ≡ false = sym read ∙ not-true here one in
-        let stop = front-out p (viewAt sheet i) (viewOf sheet (i + 1) e) out in (
-          (
-            sym (passed .before ∙ rw (cons, stop, append-nil)),
-            sym (passed .after ∙ rw (cons, rest-out p (viewAt sheet i) (viewOf sheet (i + 1) e) out)),
-          ),
+        let of : p (viewAt sheet i) ≡ false = sym read ∙ not-true here one in (
+          (sym (passed .before ∙ rw (cons, of, front, append-nil)), sym (passed .after ∙ rw (cons, of, rest))),
           omega arith,
         )
 

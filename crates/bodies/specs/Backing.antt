@@ -1,6 +1,4 @@
 -- Rule 33, record by record.
-use Prim.Native.Nat.{ℕ}
-use mathlib.Core.Bool.{Bool}
 use mathlib.Core.List.{List, flatMap}
 use lib.Dec.{ltb}
 use Rattle.rules.specs.Words.{anyOf, onlyIf}

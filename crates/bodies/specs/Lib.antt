@@ -1,4 +1,5 @@
 pub mod Backing
+pub mod Bit
 pub mod Earlier
 pub mod Items
 pub mod Ordinal

@@ -18,9 +18,11 @@ run-end-spec =
     Inv-loop
     μ-loop
     (λ c. search none-passed)
-    (λ c κs. search needs)
+    (λ c κs. search (needs))
     (λ c. passed-end _ _ _ _ _ (c .before .before .before .loop .inv) _ (c .before .before .loop-test .taken) (c .before .is-in .ensures) (c .if1 .taken))
     (λ c. search needs)
     (λ c. search needs)
     (λ c. passed-next _ _ _ _ _ (c .before .before .before .loop .inv) _ (c .before .before .loop-test .taken) (c .before .is-in .ensures) (c .if1 .left))
     (λ c. passed-all _ _ _ _ _ (c .before .loop .inv) (c .loop-test .left)))
+
+-- x
