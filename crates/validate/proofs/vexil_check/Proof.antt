@@ -1,0 +1,14 @@
+-- The answer of the check, as numbers.
+use borrow.Author.Needs.{needs}
+use Rattle.validate.proofs.Answers.{told-answered}
+use Rattle.validate.proofs.vexil_check.Statement.{statement}
+use Rattle.validate.proofs.vexil_check.Tie as tie
+
+ruleset laws = (needs, told-answered)
+
+pub vexil-check-spec : {M : Type 1} → statement M
+vexil-check-spec = tie.close (tie.spec
+    (λ c κs. search needs)
+    (λ c κs. search needs)
+    (λ c. search laws)
+    (λ c. search laws))
