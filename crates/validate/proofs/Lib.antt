@@ -1,1 +1,4 @@
-pub mod Answers
+-- The refusals: their numbers, their indices, and the newtypes that row 9 tells of.
+pub mod StepRows
+pub mod Rings
+pub mod Faults
