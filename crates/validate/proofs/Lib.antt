@@ -2,3 +2,5 @@
 pub mod StepRows
 pub mod Rings
 pub mod Faults
+-- What is demanded of a call.
+pub mod Demands
