@@ -5,5 +5,4 @@ pub mod Digits
 pub mod LineTexts
 pub mod Answers
 -- What it means: the lines are what the program prints.
-pub mod Numbered
 pub mod Printed

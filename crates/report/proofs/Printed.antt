@@ -1,6 +1,6 @@
 -- The lines of the check's own answer and buffer are all that the program prints: the buffer holds the whole list, which is read back, and
 -- only a refusal has another number than 0.
-use Prim.Native.Nat.{ℕ, suc, _*_, _≤_, _<_}
+use Prim.Native.Nat.{ℕ, _*_, _≤_, _<_}
 use mathlib.Core.Path.{_≡_, refl, _∙_, ap}
 use mathlib.Core.Bool.{false}
 use mathlib.Core.List.{List, _++_, flatMap}
@@ -16,9 +16,9 @@ use Rattle.rules.specs.Answer.{answer, isAccepted, fullList, totalOf, errorsOf}
 use Rattle.rules.specs.Buffer.{bufferAfter, written, decodeList, writtenOf}
 use Rattle.rules.specs.Printed.{printed, violationLine, countsLine}
 use Rattle.rules.proofs.Bound.{list-fits}
+use Rattle.rules.proofs.Faults.{refusal-row, row-positive}
 use Rattle.rules.proofs.Encoding.{full-list-encodable, decode-written, length-written}
 use Rattle.report.specs.Lines.{toldOf, violationLines, linesOf}
-use Rattle.report.proofs.Numbered.{NumberedFault, no-fault, one-fault, refusal-numbered}
 
 module _ (sheet names old : List ℕ) (bytes : (i : ℕ) → getD sheet i 0 < 256) (room : 36864 ≤ length old) where
   abbrev full : List Violation
@@ -42,10 +42,8 @@ module _ (sheet names old : List ℕ) (bytes : (i : ℕ) → getD sheet i 0 < 25
   -- the lines are what the program prints
   pub lines-printed : linesOf (answer sheet names) (bufferAfter sheet names old) ≡ printed sheet names
   unfolding linesOf answer bufferAfter printed
-  lines-printed = go (refusal sheet names) refl (refusal-numbered sheet names)
+  lines-printed = go (refusal sheet names) refl
     where
-      go : (o : Option Fault) → refusal sheet names ≡ o → NumberedFault o → linesOf (answer sheet names) (bufferAfter sheet names old) ≡ printed sheet names
-      go none e no-fault = rw (e, answer, bufferAfter, printed) (ap (λ lines. lines ++ countsLine (totalOf full) (errorsOf full)) (all-told e))
-      go (some f) e (one-fault {n}) =
-          let other : eqb (suc n) 0 ≡ false = ne-eqb (suc n) 0 (λ z. omega arith) in
-          rw (e, answer, bufferAfter, printed) (rw (other, linesOf))
+      go : (o : Option Fault) → refusal sheet names ≡ o → linesOf (answer sheet names) (bufferAfter sheet names old) ≡ printed sheet names
+      go none e = rw (e, answer, bufferAfter, printed) (ap (λ lines. lines ++ countsLine (totalOf full) (errorsOf full)) (all-told e))
+      go (some f) e = rw (e, answer, bufferAfter, printed) (rw (ne-eqb (f .number) 0 (λ z. absurd (omega (arith, row-positive (refusal-row sheet names e), z))), linesOf))

@@ -44,6 +44,10 @@ pub mod Places
 pub mod Encoding
 pub mod Chains
 pub mod Unused
+-- The refusals: their numbers, their indices, and the newtypes that row 9 tells of.
+pub mod StepRows
+pub mod Rings
+pub mod Faults
 -- The rules at other names.
 pub mod Mapped
 pub mod Renamed

@@ -1,7 +1,7 @@
 -- Every definition of document 01, in its order: what a reader of the promises must believe.
 -- Words: Words. The sheet: Kind, Sub, Record, Used, Context. Turned down: Grammar, Refusals. The rules: Rule, Types, Annotations,
 -- Conditions, Bodies. What a caller gets: Answer, Buffer, Printed. The cases that document 01 marks: Table.
--- What demand 3 speaks of: Items.
+-- What demand 3 speaks of: Items. What demands 1 and 2 say of refusals: Refused.
 pub mod Words
 pub mod Kind
 pub mod Sub
@@ -20,3 +20,4 @@ pub mod Buffer
 pub mod Printed
 pub mod Table
 pub mod Items
+pub mod Refused

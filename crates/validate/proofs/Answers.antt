@@ -38,7 +38,7 @@ module _ (sheet names old : List ℕ) where
   pub refused-answered :
       (v : Verdict) (why : Refusal) (index : ℕ) → verdictOf v ≡ refusal sheet names → v ≡ Verdict.Refused why index →
       Answered sheet names old (valuesOf (Refused why index)) old
-  unfolding Answered answer bufferAfter
+  unfolding answer bufferAfter
   refused-answered v why index h e =
       let told : refusal sheet names ≡ some (record { number = numberOf why; index = index }) = sym h ∙ ap verdictOf e in
       (rw (told, answer) refl, rw (told, bufferAfter) refl)
@@ -72,7 +72,7 @@ module _ (sheet names old : List ℕ) where
       (pushFound (onlyIf (leb (length sheet) 32768) (violationsOf (contextBy table sheet) (viewOf sheet 0 (length sheet / recordSize))))
       (old, record { total = 0; errors = 0 })) →
       Answered sheet names old (valuesOf (Accepted counts)) list
-  unfolding Answered answer bufferAfter
+  unfolding answer bufferAfter
   accepted-answered v table list counts h ht e hs =
       let told : refusal sheet names ≡ none = sym h ∙ ap verdictOf e in
       let all = listed table (list, counts) told ht hs in

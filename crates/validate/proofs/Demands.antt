@@ -24,18 +24,13 @@ use Rattle.rules.proofs.ReorderedCounts.{reordered-counts}
 use Rattle.rules.proofs.AddedCounts.{added-counts}
 use Rattle.rules.proofs.Counted.{counted}
 use Rattle.validate.specs.Answered.{Answered, IsBytes, writtenBy}
-use Rattle.validate.specs.Refused.{RefusedAt, by-length, at-record, at-end, EndlessNewtype}
-use Rattle.validate.proofs.Faults.{refusal-row, refusal-ring, refusal-first-ring, ring-refusal}
+use Rattle.rules.specs.Refused.{RefusedAt, by-length, at-record, at-end, EndlessNewtype}
+use Rattle.rules.proofs.Faults.{refusal-row, refusal-ring, refusal-first-ring, ring-refusal, row-positive}
 
 -- Demand 1: two calls on the same sheet and the same names text answer the same, whatever their buffers
 pub same-answer : (sheet names old old′ : List ℕ) (r r′ : AnswerValues) (exit exit′ : List ℕ)
     → Answered sheet names old r exit → Answered sheet names old′ r′ exit′ → r ≡ r′
 same-answer sheet names old old′ r r′ exit exit′ call call′ = call .0 ∙ sym (call′ .0)
-
-row-positive : {count number index : ℕ} → RefusedAt count number index → 1 ≤ number
-row-positive (by-length number p q) = p
-row-positive (at-record number index p q l) = omega arith
-row-positive at-end = omega arith
 
 module _ (sheet names old : List ℕ) (r : AnswerValues) (exit : List ℕ) (call : Answered sheet names old r exit) where
   accepted-number : refusal sheet names ≡ none → r .number ≡ 0

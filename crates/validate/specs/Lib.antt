@@ -1,3 +1,2 @@
--- What a call of the entry answers, and what the theorems about its answers speak of.
+-- What a call of the entry answers.
 pub mod Answered
-pub mod Refused

@@ -1,5 +1,5 @@
 // The check of a declaration: a sheet and a names text are turned down, or every violation is listed.
-ghost use Rattle.validate.specs.Answered.{Answered};
+ghost use Rattle.validate.specs.Answered.{Answered, IsBytes};
 
 mod values;
 mod whole;
@@ -12,6 +12,7 @@ pub use whole::check;
 #[no_mangle]
 pub extern "C" fn vexil_check(sheet: &[u8], names: &[u8], list: &mut [u8]) -> AnswerValues
     ensures { λ r. ⌜ Answered (now (sheet .entry)) (now (names .entry)) (now (list .entry)) r (now (list .exit)) ⌝ }
+    ensures { λ r. ⌜ IsBytes (now (sheet .entry)) ⌝ }
 {
     values::values_of(check(sheet, names, list))
 }

@@ -8,18 +8,18 @@ use mathlib.Core.List.{List, [], _∷_, _++_}
 use mathlib.Core.Option.{Option, some, none}
 use mathlib.Core.Logic.{_≢_}
 use lib.ListN.{length, length-append}
 use Rattle.rules.specs.declared.span.Span.{Span}
 use Rattle.rules.specs.Words.{onlyIf}
 use Rattle.rules.specs.Kind
 use Rattle.rules.specs.Record.{Rec, is, recordSize, records}
 use Rattle.rules.specs.Context.{ValidationContext, contextOf}
 use Rattle.rules.specs.Grammar.{Step, to, fault, State, done, start}
 use Rattle.rules.specs.Refusals.{Fault, firstFault, endlessChain, recordsFault, isWrongLength, isLongNames, refusal}
 use Rattle.rules.proofs.Records.{length-records}
 use Rattle.rules.proofs.Chains.{isSome, never-ends}
-use Rattle.validate.specs.Refused.{RefusedAt, by-length, at-record, at-end, EndlessNewtype}
-use Rattle.validate.proofs.StepRows.{ByRow, on, by, record-row}
-use Rattle.validate.proofs.Rings.{RowNine, all-end, ring, row-nine, NotAfter, row-nine-first}
+use Rattle.rules.specs.Refused.{RefusedAt, by-length, at-record, at-end, EndlessNewtype}
+use Rattle.rules.proofs.StepRows.{ByRow, on, by, record-row}
+use Rattle.rules.proofs.Rings.{RowNine, all-end, ring, row-nine, NotAfter, row-nine-first}
 
 module _ {A : Type 0} where
   some-not : (o : Option A) → isSome o ≡ true → o ≢ none
@@ -127,3 +127,8 @@ module _ (sheet names : List ℕ) where
     where
       go : {index : ℕ} → Told (contextOf rs) rs none → NotAfter index (endlessChain (contextOf rs) 0 rs) → ⊥
       go (late e all-end) y = let z : _≡_ {A = ℕ} 0 1 = cc in omega arith
+
+pub row-positive : {count number index : ℕ} → RefusedAt count number index → 1 ≤ number
+row-positive (by-length number p q) = p
+row-positive (at-record number index p q l) = omega arith
+row-positive at-end = omega arith

@@ -8,13 +8,13 @@ use mathlib.Core.Bool.{Bool, true, false, _&&_, true≢false}
 use mathlib.Core.List.{List, [], _∷_, _++_}
 use mathlib.Core.Option.{Option, some, none}
 use lib.ListN.{length}
 use Rattle.rules.specs.Kind
 use Rattle.rules.specs.Sub
 use Rattle.rules.specs.Record.{Rec, isOf}
 use Rattle.rules.specs.Context.{ValidationContext, neverEnds}
 use Rattle.rules.specs.Refusals.{Fault, leadsNowhere, endlessChain}
 use Rattle.rules.proofs.Lists.{and-left, and-right}
-use Rattle.validate.specs.Refused.{NewtypeIn}
+use Rattle.rules.specs.Refused.{NewtypeIn}
 
 module _ {N P : Type 0} where
   abbrev newtype-later : (r : Rec N P) {rs : List (Rec N P)} → NewtypeIn rs → NewtypeIn (r ∷ rs)
