@@ -1,21 +1,20 @@
 -- The declaration of a sheet: its head, and the body by the head's sub.
 use Prim.Native.Nat.{ℕ, _+_, _-_, _/_, _≤_, _<_}
 use native.Mathlib.Omega.{arith}
-use mathlib.Core.Path.{_≡_, refl, sym, ap, _∙_}
-use mathlib.Core.Bool.{Bool, true, false, not}
-use mathlib.Core.List.{List, [], _∷_, _++_}
+use mathlib.Core.Path.{_≡_, sym, ap, _∙_}
+use mathlib.Core.List.{List, [], _∷_}
 use lib.ListN.{length}
-use lib.Dec.{eqb, leb}
+use lib.Dec.{leb}
 use borrow.Author.Tests.{ne-eqb, le-leb, lt-leb}
 use Rattle.rules.specs.declared.span.Span.{Span}
-use Rattle.rules.specs.Words.{onlyIf, rest}
+use Rattle.rules.specs.Words.{onlyIf}
 use Rattle.rules.specs.Kind
-use Rattle.rules.specs.Record.{Rec, is, recordBytes, subIn}
+use Rattle.rules.specs.Record.{Rec, recordBytes, subIn}
 use Rattle.rules.specs.Context.{ValidationContext}
 use Rattle.rules.specs.Rule.{Found}
-use Rattle.rules.specs.Bodies.{enumScheme, bodyItems, listViolations, backingViolations, fieldListViolations, enumViolations, flagsViolations, unionViolations, newtypeViolations, bodyViolations, declarationViolations, violationsOf}
+use Rattle.rules.specs.Bodies.{enumScheme, bodyItems, listViolations, fieldListViolations, enumViolations, flagsViolations, unionViolations, newtypeViolations, bodyViolations, declarationViolations, violationsOf}
 use Rattle.sheet.proofs.Matched.{Unmatched}
-use Rattle.names.specs.View.{viewAt, viewOf, contextBy}
+use Rattle.names.specs.View.{viewAt, viewOf}
 use Rattle.types.proofs.Views.{view-cons, view-none}
 use Rattle.diagnostic.specs.Push.{State, pushFound}
 use Rattle.diagnostic.proofs.FoundPushes.{found-none, found-then}

@@ -1,5 +1,5 @@
 -- A whole field list: what is known before each record, and what is still to add.
-use Prim.Native.Nat.{ℕ, zero, suc, _+_, _-_, _≤_, _<_}
+use Prim.Native.Nat.{ℕ, _+_, _-_, _≤_, _<_}
 use native.Mathlib.Omega.{arith}
 use mathlib.Core.Path.{_≡_, refl, sym, ap, _∙_}
 use mathlib.Core.Bool.{Bool, true, false, not, _&&_, _||_}
@@ -16,13 +16,14 @@ use Rattle.rules.specs.Bodies.{fieldScheme, itemsViolations, fieldItemViolation
 use Rattle.names.specs.View.{viewAt, viewOf, entryOf, idPart, contextBy}
 use Rattle.diagnostic.specs.Push.{State, pushFound}
 use Rattle.diagnostic.proofs.FoundPushes.{found-none}
+use Rattle.annotations.proofs.FoundSteps.{found-step}
 use Rattle.bodies.specs.declared.seen.Seen.{Seen}
 use Rattle.bodies.specs.Seen.{latest}
 use Rattle.bodies.specs.Earlier.{valuesOf, earlier}
 use Rattle.bodies.specs.Items.{fieldFound}
 use Rattle.bodies.proofs.Collecting.{latest-store}
 use Rattle.bodies.proofs.Passing.{values, gone, before, earlier-next, Known, known-start, known-other, known-room, known-member, known-gone, known-met}
-use Rattle.bodies.proofs.Turns.{namesOf, added, kind-is, kind-not, turn-none}
+use Rattle.bodies.proofs.Turns.{namesOf, kind-is, kind-not, turn-none}
 use Rattle.bodies.proofs.Retired.{retired-fields}
 use Rattle.bodies.proofs.FieldTurns.{fieldsLeft, field-other, field-turn}
 
@@ -94,7 +95,7 @@ module _ (table sheet : List ℕ) (a e : ℕ) where
         size ∙ known .0,
         known-other 11 12 sheet a e (ordinals .ordinals) tombstones (ordinals .len) i h test (known .1),
         (known .2 .0, omega (arith, known .2 .1), known .2 .2 ∙ ap (idsOf table) (sym (fields-next i false le test))),
-        added _ _ _ s t _ (field-other table sheet a e tombs i le h test) ht (known .3),
+        found-step _ _ _ s t _ (field-other table sheet a e tombs i le h test) ht (known .3),
       )
 
   -- there is room for one field more
@@ -133,7 +134,7 @@ module _ (table sheet : List ℕ) (a e : ℕ) where
               ∙ ap (λ n. n ∷ idsOf table (fields i)) hn
               ∙ ap (idsOf table) (sym (fields-next i true le test)),
         ),
-        added _ _ _ s t _
+        found-step _ _ _ s t _
             (field-turn table sheet a e tombs i tombstoned met renamed le h test dead
             (known-met 11 12 sheet a e (ordinals .ordinals) tombstones (ordinals .len) i ordinal tombstoned met (known .1) ht hm
             ∙ ap (λ v. not (member v tombs) && member v (values (fields i))) ho)

@@ -2,18 +2,19 @@
 use Prim.Native.Nat.{ℕ, _+_, _-_, _≤_, _<_}
 use native.Mathlib.Omega.{arith}
 use mathlib.Core.Path.{_≡_, refl, sym, ap, ap₂, _∙_}
-use mathlib.Core.Bool.{Bool, true, false, not, _&&_, _||_}
-use mathlib.Core.List.{List, [], _∷_, _++_, append-nil, map, flatMap}
-use lib.Dec.{eqb, ltb, leb}
-use borrow.Author.Tests.{eqb-true, eq-eqb, ne-eqb, leb-true}
+use mathlib.Core.Bool.{Bool, true, false, not, _&&_}
+use mathlib.Core.List.{List, _++_, append-nil}
+use lib.Dec.{ltb}
+use borrow.Author.Tests.{eqb-true, ne-eqb}
 use Rattle.rules.specs.declared.span.Span.{Span}
-use Rattle.rules.specs.Words.{within, onlyIf, anyOf, member, front, items}
+use Rattle.rules.specs.Words.{onlyIf, anyOf, member, front}
 use Rattle.rules.specs.Kind
 use Rattle.rules.specs.Record.{Rec, is}
 use Rattle.rules.specs.Grammar.{startsFieldItem}
 use Rattle.rules.specs.Context.{ValidationContext}
 use Rattle.rules.specs.Rule.{Found, foundIf}
 use Rattle.rules.specs.Bodies.{Scheme, fieldScheme, foundAll, isMember, memberViolations, fieldViolations, fieldItemViolations}
+use Rattle.rules.proofs.Taken.{within-true, outside-is}
 use Rattle.names.specs.View.{viewAt, viewOf, contextBy}
 use Rattle.diagnostic.specs.Push.{State, pushFound}
 use Rattle.diagnostic.proofs.FoundPushes.{found-then}
@@ -22,8 +23,7 @@ use Rattle.bodies.specs.Runs.{EndsAt}
 use Rattle.bodies.specs.Ordinal.{memberFound}
 use Rattle.bodies.specs.Items.{fieldFound}
 use Rattle.bodies.proofs.Passing.{values, before}
-use Rattle.bodies.proofs.Retired.{and-right}
-use Rattle.bodies.proofs.Turns.{namesOf, left, itemAt, turn-member, turn-other, turn-inner}
+use Rattle.bodies.proofs.Turns.{namesOf, left, turn-member, turn-other, turn-inner}
 
 -- what the tests say is what the rules of a scheme ask
 pub member-tests :
@@ -51,15 +51,11 @@ field-plain r t = let k : r .kind ≡ 11 = eqb-true (r .kind) 11 t in rw k
 
 other-member : (r : Rec ℕ Span) → startsFieldItem r ≡ true → is Kind.Field r ≡ false → isMember r ≡ false
 other-member r st t =
-    let small : r .kind ≤ 13 = leb-true (r .kind) 13 (and-right (leb 11 (r .kind)) (leb (r .kind) 13) st) in
-    rw (t, ne-eqb (r .kind) 14 (λ k. absurd (omega (arith, small, k))))
+    let k = within-true Kind.Field Kind.Invariant (r .kind) st in
+    rw (t, ne-eqb (r .kind) Kind.Variant (λ q. omega arith))
 
 invariant-starts : (r : Rec ℕ Span) → startsFieldItem r ≡ false → is Kind.Invariant r ≡ false
-invariant-starts r st = go (is Kind.Invariant r) refl
-  where
-    go : (b : Bool) → is Kind.Invariant r ≡ b → is Kind.Invariant r ≡ false
-    go true t = let k : r .kind ≡ 13 = eqb-true (r .kind) 13 t in t ∙ (rw k at st)
-    go false t = t
+invariant-starts r st = outside-is Kind.Field Kind.Invariant Kind.Invariant (r .kind) refl st
 
 module _ (table sheet : List ℕ) (a e : ℕ) (gone : List ℕ) where
   abbrev ctx : ValidationContext ℕ Span

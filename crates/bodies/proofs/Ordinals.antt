@@ -2,13 +2,13 @@
 use Prim.Native.Nat.{ℕ}
 use mathlib.Core.Path.{_≡_, refl, sym, ap, _∙_}
 use mathlib.Core.Bool.{Bool, true, false, not, _&&_}
-use mathlib.Core.List.{List, [], _∷_, _++_, flatMap}
+use mathlib.Core.List.{List, [], _∷_, flatMap}
 use lib.Dec.{eqb, ltb}
 use Rattle.rules.specs.declared.span.Span.{Span}
 use Rattle.rules.specs.declared.violation.Violation.{Violation}
 use Rattle.rules.specs.Kind
-use Rattle.rules.specs.Record.{Rec, is, recordBytes, kindIn, spanIn, ordinalSpanIn, valueIn}
-use Rattle.rules.specs.Rule.{Found, foundIf, violation, ruleRow, classOf, severityOf, error}
+use Rattle.rules.specs.Record.{is, recordBytes, kindIn, spanIn, ordinalSpanIn, valueIn}
+use Rattle.rules.specs.Rule.{foundIf, violation, ruleRow, error}
 use Rattle.rules.specs.Bodies.{Scheme, foundAll, fieldScheme, enumScheme, unionScheme}
 use Rattle.names.specs.View.{viewAt}
 use Rattle.diagnostic.specs.Push.{State, pushIf, pushFound}

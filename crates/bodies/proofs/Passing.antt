@@ -1,7 +1,6 @@
 -- What is known after the records before i: the ordinals of all tombstones, and those of the items so far.
 use Prim.Native.Nat.{ℕ, zero, suc, _+_, _-_, _≤_, _<_}
 use native.Mathlib.Omega.{arith}
-use native.Mathlib.Numerals.{add-one}
 use mathlib.Core.Path.{_≡_, refl, sym, ap, _∙_}
 use mathlib.Core.Bool.{Bool, true, false, not, _&&_, _||_}
 use mathlib.Core.List.{List, [], _∷_, _++_, map}
@@ -10,9 +9,9 @@ use lib.Dec.{eqb}
 use borrow.Author.Tests.{eqb-true}
 use Rattle.rules.specs.declared.span.Span.{Span}
 use Rattle.rules.specs.Words.{onlyIf, anyOf, member, select}
-use Rattle.rules.specs.Record.{Rec, is, kindIn, valueIn, recordBytes}
-use Rattle.names.specs.View.{viewAt, viewFrom, viewOf, entryOf, idPart}
-use Rattle.types.proofs.Views.{view-cons, view-none}
+use Rattle.rules.specs.Record.{Rec, is, valueIn, recordBytes}
+use Rattle.names.specs.View.{viewAt, viewFrom, viewOf}
+use Rattle.types.proofs.Views.{view-cons}
 use Rattle.bodies.specs.Seen.{latest}
 use Rattle.bodies.specs.Earlier.{valuesOf, earlier}
 use Rattle.bodies.proofs.Collecting.{latest-above, latest-store, length-latest}

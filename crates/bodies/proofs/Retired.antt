@@ -1,18 +1,18 @@
 -- The tombstoned ordinals of a list are the values of its tombstones.
-use Prim.Native.Nat.{ℕ, _≤_}
+use Prim.Native.Nat.{ℕ}
 use native.Mathlib.Omega.{arith}
 use mathlib.Core.Path.{_≡_, refl, sym, ap, ap₂, _∙_}
-use mathlib.Core.Bool.{Bool, true, false, _&&_, _||_}
-use mathlib.Core.List.{List, [], _∷_, _++_, map, flatMap}
-use lib.Dec.{eqb, leb}
-use borrow.Author.Tests.{eqb-true, ne-eqb, leb-true}
+use mathlib.Core.Bool.{Bool, true, false, _||_, or-false}
+use mathlib.Core.List.{List, [], _∷_, _++_, flatMap}
+use borrow.Author.Tests.{ne-eqb}
 use Rattle.rules.specs.declared.span.Span.{Span}
-use Rattle.rules.specs.Words.{onlyIf, select, Item, items}
+use Rattle.rules.specs.Words.{onlyIf, select, items}
 use Rattle.rules.specs.Kind
 use Rattle.rules.specs.Record.{Rec, is}
 use Rattle.rules.specs.Grammar.{startsFieldItem, startsItem}
-use Rattle.rules.specs.Bodies.{Slot, used, retired, retiredOrdinal, retiredOrdinals, isMember, isTombstone, slotOf, slots}
+use Rattle.rules.specs.Bodies.{used, retired, retiredOrdinal, retiredOrdinals, isMember, isTombstone, slots}
 use Rattle.rules.proofs.Joined.{flatMap-append}
+use Rattle.rules.proofs.Taken.{within-true, outside-is}
 use Rattle.bodies.specs.Earlier.{valuesOf}
 
 -- an item's own
@@ -49,43 +49,20 @@ module _
             ∙ sym (values-cons r rs (is tomb r) refl)
         go ih false st = rw (st, items) ih ∙ sym (values-cons r rs false (other r st))
 
-or-false : (b : Bool) → (b || false) ≡ b
-or-false true = refl
-or-false false = refl
-
-pub and-left : (b c : Bool) → (b && c) ≡ true → b ≡ true
-and-left true c h = refl
-and-left false true h = h
-and-left false false h = h
-
-pub and-right : (b c : Bool) → (b && c) ≡ true → c ≡ true
-and-right true true h = refl
-and-right true false h = h
-and-right false true h = refl
-and-right false false h = h
-
--- a record of a kind that begins items is none where none begins
-none-begins : (start : Rec ℕ Span → Bool) (k : ℕ) (r : Rec ℕ Span) → (r .kind ≡ k → start r ≡ true) → start r ≡ false → is k r ≡ false
-none-begins start k r begins st = go (is k r) refl
-  where
-    go : (b : Bool) → is k r ≡ b → is k r ≡ false
-    go true t = t ∙ sym (begins (eqb-true (r .kind) k t)) ∙ st
-    go false t = t
-
 -- the tombstones of a field list
 pub retired-fields : (rs : List (Rec ℕ Span)) → retiredOrdinals (slots (items startsFieldItem rs)) ≡ valuesOf Kind.FieldTombstone rs
 retired-fields =
     retired-values startsFieldItem Kind.FieldTombstone
     (λ r st.
-    let small : r .kind ≤ 13 = leb-true (r .kind) 13 (and-right (leb 11 (r .kind)) (leb (r .kind) 13) st) in
-    ap (λ b. is Kind.FieldTombstone r || b) (ne-eqb (r .kind) 15 (λ k. absurd (omega (arith, small, k)))) ∙ or-false (is Kind.FieldTombstone r))
-    (λ r st. none-begins startsFieldItem Kind.FieldTombstone r (λ k. rw k) st)
+    let k = within-true Kind.Field Kind.Invariant (r .kind) st in
+    ap (λ b. is Kind.FieldTombstone r || b) (ne-eqb (r .kind) Kind.Tombstone (λ q. omega arith)) ∙ or-false (is Kind.FieldTombstone r))
+    (λ r st. outside-is Kind.Field Kind.Invariant Kind.FieldTombstone (r .kind) refl st)
 
 -- and those of another body
 pub retired-items : (rs : List (Rec ℕ Span)) → retiredOrdinals (slots (items startsItem rs)) ≡ valuesOf Kind.Tombstone rs
 retired-items =
     retired-values startsItem Kind.Tombstone
     (λ r st.
-    let great : 14 ≤ r .kind = leb-true 14 (r .kind) (and-left (leb 14 (r .kind)) (leb (r .kind) 15) st) in
-    ap (λ b. b || is Kind.Tombstone r) (ne-eqb (r .kind) 12 (λ k. absurd (omega (arith, great, k)))))
-    (λ r st. none-begins startsItem Kind.Tombstone r (λ k. rw k) st)
+    let k = within-true Kind.Variant Kind.Tombstone (r .kind) st in
+    ap (λ b. b || is Kind.Tombstone r) (ne-eqb (r .kind) Kind.FieldTombstone (λ q. omega arith)))
+    (λ r st. outside-is Kind.Variant Kind.Tombstone Kind.Tombstone (r .kind) refl st)

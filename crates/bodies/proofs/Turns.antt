@@ -1,8 +1,8 @@
 -- A list of items, record by record: what is still to find from record i on.
-use Prim.Native.Nat.{ℕ, suc, _+_, _-_, _≤_, _<_}
+use Prim.Native.Nat.{ℕ, _+_, _-_, _≤_, _<_}
 use native.Mathlib.Omega.{arith}
-use mathlib.Core.Path.{_≡_, refl, sym, ap, _∙_}
-use mathlib.Core.Bool.{Bool, true, false, not, _&&_, _||_}
+use mathlib.Core.Path.{_≡_, sym, ap, _∙_}
+use mathlib.Core.Bool.{Bool, true, false, not}
 use mathlib.Core.List.{List, [], _∷_, _++_, map}
 use lib.Dec.{eqb}
 use borrow.Author.Tests.{eq-eqb, ne-eqb}
@@ -13,8 +13,6 @@ use Rattle.rules.specs.Context.{ValidationContext}
 use Rattle.rules.specs.Rule.{Found}
 use Rattle.rules.specs.Bodies.{Scheme, isMember, memberViolations, itemsViolations}
 use Rattle.names.specs.View.{viewAt, viewOf}
-use Rattle.diagnostic.specs.Push.{State, pushFound}
-use Rattle.diagnostic.proofs.FoundPushes.{found-append}
 use Rattle.types.proofs.Views.{view-cons, view-none}
 use Rattle.bodies.specs.Earlier.{earlier}
 use Rattle.bodies.proofs.Passing.{earlier-next, values}
@@ -27,11 +25,6 @@ kind-is sheet i k kind hk h = ap (λ n. eqb n kind) (sym hk) ∙ eq-eqb k kind h
 pub kind-not : (sheet : List ℕ) (i k kind : ℕ) → k ≡ kindIn (recordBytes sheet i) → (k ≡ kind → ⊥) → is kind (viewAt sheet i) ≡ false
 unfolding viewAt
 kind-not sheet i k kind hk h = ap (λ n. eqb n kind) (sym hk) ∙ ne-eqb k kind h
-
--- of what is to add, the first part is added
-pub added :
-    (all now later : List (Found Span)) (s t u : State) → all ≡ now ++ later → t ≡ pushFound now s → pushFound all s ≡ u → pushFound later t ≡ u
-added all now later s t u split e' h = ap (pushFound later) e' ∙ sym (found-append now later s) ∙ ap (λ fs. pushFound fs s) (sym split) ∙ h
 
 -- the names of records
 abbrev pub namesOf : List (Rec ℕ Span) → List ℕ

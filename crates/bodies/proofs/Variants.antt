@@ -1,12 +1,11 @@
 -- The variants of an enum or a union: what is known before each record, and what is still to add.
 use Prim.Native.Nat.{ℕ, _+_, _-_, _≤_, _<_}
 use native.Mathlib.Omega.{arith}
-use mathlib.Core.Path.{_≡_, refl, sym, ap, ap₂, _∙_}
-use mathlib.Core.Bool.{Bool, true, false, not, _&&_, _||_}
-use mathlib.Core.List.{List, [], _∷_, _++_, append-nil, flatMap}
+use mathlib.Core.Path.{_≡_, refl, sym, ap, _∙_}
+use mathlib.Core.Bool.{Bool, true, false, not, _&&_}
+use mathlib.Core.List.{List, [], _++_, append-nil, flatMap}
 use lib.ListN.{length, set}
-use lib.Dec.{eqb, leb}
-use borrow.Author.Tests.{eqb-true, ne-eqb, leb-true}
+use borrow.Author.Tests.{eqb-true}
 use Rattle.rules.specs.declared.span.Span.{Span}
 use Rattle.rules.specs.Words.{onlyIf, anyOf, member, front, Item, items}
 use Rattle.rules.specs.Kind
@@ -18,6 +17,7 @@ use Rattle.rules.specs.Bodies.{Scheme, enumScheme, unionScheme, isMember, items
 use Rattle.names.specs.View.{viewAt, viewOf, contextBy}
 use Rattle.diagnostic.specs.Push.{State, pushFound}
 use Rattle.diagnostic.proofs.FoundPushes.{found-none, found-then}
+use Rattle.annotations.proofs.FoundSteps.{found-step}
 use Rattle.bodies.specs.declared.seen.Seen.{Seen}
 use Rattle.bodies.specs.Seen.{latest}
 use Rattle.bodies.specs.Earlier.{valuesOf, earlier}
@@ -25,10 +25,11 @@ use Rattle.bodies.specs.declared.runs.Run.the-variants as Run
 use Rattle.bodies.specs.Runs.{EndsAt}
 use Rattle.bodies.specs.Items.{variantFound}
 use Rattle.bodies.specs.Ordinal.{pushOrdinal, memberFound}
+use Rattle.bodies.proofs.BodyItems.{item-member}
 use Rattle.bodies.proofs.Ordinals.{union-members}
 use Rattle.bodies.proofs.Passing.{values, gone, before, Known, known-start, known-other, known-room, known-member, known-gone, known-met}
-use Rattle.bodies.proofs.Turns.{namesOf, added, kind-is, kind-not, left, itemAt, turn-member, turn-other, turn-inner, turn-none}
-use Rattle.bodies.proofs.Retired.{and-left, retired-items}
+use Rattle.bodies.proofs.Turns.{namesOf, kind-is, kind-not, left, itemAt, turn-member, turn-other, turn-inner, turn-none}
+use Rattle.bodies.proofs.Retired.{retired-items}
 use Rattle.bodies.proofs.FieldTurns.{member-tests}
 
 -- the kinds of a body
@@ -37,11 +38,6 @@ variant-starts r t = let k : r .kind ≡ 14 = eqb-true (r .kind) 14 t in rw k
 
 variant-member : (r : Rec ℕ Span) → is Kind.Variant r ≡ true → isMember r ≡ true
 variant-member r t = let k : r .kind ≡ 14 = eqb-true (r .kind) 14 t in rw k
-
-other-member : (r : Rec ℕ Span) → startsItem r ≡ true → is Kind.Variant r ≡ false → isMember r ≡ false
-other-member r st t =
-    let great : 14 ≤ r .kind = leb-true 14 (r .kind) (and-left (leb 14 (r .kind)) (leb (r .kind) 15) st) in
-    rw (t, ne-eqb (r .kind) 11 (λ k. absurd (omega (arith, great, k))))
 
 module _
     (ctx : ValidationContext ℕ Span)
@@ -89,7 +85,7 @@ module _
       where
         go : (b : Bool) → startsItem (at i) ≡ b → still i ≡ still (i + 1)
         go true st =
-            turn-other ctx scheme own startsItem 14 sheet a e tombs i le h st (other-member (at i) st t) t
+            turn-other ctx scheme own startsItem 14 sheet a e tombs i le h st (item-member (at i) st ∙ t) t
             ∙ ap (λ fs. fs ++ still (i + 1)) (nothing (itemAt ctx scheme own startsItem 14 sheet a e tombs i) t)
         go false st = turn-inner ctx scheme own startsItem 14 sheet a e tombs i le h st t
 
@@ -126,7 +122,7 @@ module _
         known-gone 14 15 sheet a e (seen .ordinals) tombstones (seen .len) i ordinal tombstoned (known .1) ht ∙ ap (λ v. member v tombs) ho in (
           size ∙ known .0,
           known-member 14 15 sheet a e (seen .ordinals) tombstones (seen .len) i ordinal h test ho (known .1),
-          added _ _ _ s t _
+          found-step _ _ _ s t _
               (turn-member ctx scheme own startsItem 14 sheet a e tombs i le h (variant-starts (at i) test) (variant-member (at i) test) test
               ∙ ap (λ fs. fs ++ own (itemAt ctx scheme own startsItem 14 sheet a e tombs i) ++ still (i + 1))
               (sym (names-free tombstoned met false again (at i)

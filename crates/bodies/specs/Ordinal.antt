@@ -3,7 +3,6 @@ use Prim.Native.Nat.{ℕ}
 use mathlib.Core.Bool.{Bool, not, _&&_}
 use mathlib.Core.List.{List, _++_}
 use lib.Dec.{ltb}
-use Rattle.rules.specs.declared.span.Span.{Span}
 use Rattle.rules.specs.declared.violation.Violation.{Violation}
 use Rattle.rules.specs.Rule.{Found, error}
 use Rattle.rules.specs.Record.{Rec, recordBytes, ordinalSpanIn, valueIn}

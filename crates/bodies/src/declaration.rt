@@ -7,7 +7,7 @@ ghost use lib.ListN.{length};
 ghost use lib.Dec.{leb};
 ghost use Rattle.rules.specs.Words.{onlyIf};
 ghost use Rattle.rules.specs.Record.{recordSize};
-ghost use Rattle.rules.specs.Bodies.{bodyViolations, declarationViolations, violationsOf};
+ghost use Rattle.rules.specs.Bodies.{bodyViolations, violationsOf};
 ghost use Rattle.names.specs.View.{viewOf, contextBy};
 ghost use Rattle.diagnostic.specs.Push.{pushFound};
 use crate::enums::check_enum;

@@ -4,7 +4,7 @@ ghost use mathlib.Core.List.{List};
 ghost use Prim.Native.Nat.{ℕ, _<_, _≤_, _-_};
 ghost use Rattle.rules.specs.declared.answer.Counts.{Counts};
 ghost use Rattle.rules.specs.Bodies.{unionViolations};
-ghost use Rattle.names.specs.View.{viewAt, viewOf, contextBy};
+ghost use Rattle.names.specs.View.{viewOf, contextBy};
 ghost use Rattle.diagnostic.specs.Push.{pushFound};
 ghost use Rattle.bodies.specs.Items.{variantFound};
 use crate::message::check_message_body;

@@ -1,14 +1,13 @@
 -- A refused call says why and keeps the buffer; an accepted one lists what the rules find, by the table of names.
-use Prim.Native.Nat.{ℕ, _+_, _*_, _/_, _%_, _^_, _≤_, _<_}
+use Prim.Native.Nat.{ℕ, _/_}
 use native.Mathlib.Omega.{arith}
 use mathlib.Core.Path.{_≡_, refl, sym, ap, _∙_}
-use mathlib.Core.Bool.{Bool, true, false}
-use mathlib.Core.List.{List, [], _∷_, map}
-use mathlib.Core.Option.{Option, some, none}
+use mathlib.Core.Bool.{true}
+use mathlib.Core.List.{List}
+use mathlib.Core.Option.{some, none}
 use lib.ListN.{length}
 use lib.Dec.{leb}
 use borrow.Author.Tests.{le-leb}
-use Rattle.rules.specs.declared.span.Span.{Span}
 use Rattle.rules.specs.declared.answer.Counts.{Counts}
 use Rattle.rules.specs.declared.answer.Refusal.{Refusal}
 use Rattle.rules.specs.declared.answer.AnswerValues.{AnswerValues}
@@ -16,17 +15,16 @@ use Rattle.rules.specs.declared.answer.Answer.{Answer}
 use Rattle.rules.specs.declared.answer.Answer.the-variants.{Accepted, Refused}
 use Rattle.rules.specs.Words.{onlyIf}
 use Rattle.rules.specs.Record.{recordSize}
-use Rattle.rules.specs.Refusals.{Fault, refusal}
-use Rattle.rules.specs.Rule.{Found, violation}
+use Rattle.rules.specs.Refusals.{refusal}
 use Rattle.rules.specs.Bodies.{violationsOf}
-use Rattle.rules.specs.Answer.{isAccepted, foundIn, fullList, totalOf, errorsOf, answer, numberOf, valuesOf}
+use Rattle.rules.specs.Answer.{isAccepted, fullList, totalOf, errorsOf, answer, numberOf, valuesOf}
 use Rattle.rules.specs.Buffer.{written, bufferAfter}
 use Rattle.rules.proofs.AcceptedSheet.{accepted-length}
 use Rattle.rules.proofs.Bound.{list-fits}
 use Rattle.names.specs.NameTable.{nameTable}
 use Rattle.names.specs.View.{viewOf, contextBy}
 use Rattle.names.proofs.Renamed.{table-list}
-use Rattle.diagnostic.specs.Push.{State, pushAll, pushFound}
+use Rattle.diagnostic.specs.Push.{State, pushFound}
 use Rattle.diagnostic.proofs.Written.{push-written}
 use Rattle.refusals.specs.declared.verdict.Verdict.{Verdict}
 use Rattle.refusals.specs.declared.verdict.Verdict.the-variants as Verdict

@@ -24,7 +24,7 @@ use Rattle.rules.proofs.ReorderedCounts.{reordered-counts}
 use Rattle.rules.proofs.AddedCounts.{added-counts}
 use Rattle.rules.proofs.Counted.{counted}
 use Rattle.validate.specs.Answered.{Answered, IsBytes, writtenBy}
-use Rattle.rules.specs.Refused.{RefusedAt, by-length, at-record, at-end, EndlessNewtype}
+use Rattle.rules.specs.Refused.{RefusedAt, EndlessNewtype}
 use Rattle.rules.proofs.Faults.{refusal-row, refusal-ring, refusal-first-ring, ring-refusal, row-positive}
 
 -- Demand 1: two calls on the same sheet and the same names text answer the same, whatever their buffers

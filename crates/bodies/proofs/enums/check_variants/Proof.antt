@@ -1,6 +1,5 @@
 -- The loop's invariant: what is known before record `i`, and what is still to add.
 use Prim.Native.Nat.{_-_}
-use mathlib.Core.Path.{refl}
 use borrow.Author.Needs.{needs}
 use Rattle.bodies.proofs.Variants.{EnumKnown, enum-none, enum-other, enum-room, enum-variant, enum-end}
 use Rattle.bodies.proofs.enums.check_variants.Statement.{statement}

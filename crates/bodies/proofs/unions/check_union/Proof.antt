@@ -1,6 +1,5 @@
 -- The loop's invariant: what is known before record `i`, and what is still to add.
 use Prim.Native.Nat.{_-_}
-use mathlib.Core.Path.{refl}
 use borrow.Author.Needs.{needs}
 use Rattle.bodies.proofs.Variants.{UnionKnown, union-none, union-other, union-room, union-variant, union-end}
 use Rattle.bodies.proofs.unions.check_union.Statement.{statement}
