@@ -34,11 +34,12 @@ const fn family(name: &'static str, share: u64, make: fn(&mut Maker)) -> Family 
 }
 
 /// Families whose sheets are good; some hold a fault that a sheet's shape brings with it.
-const GROWN: [Family; 16] = [
-    family("messages", 115, messages),
+const GROWN: [Family; 17] = [
+    family("messages", 95, messages),
     family("types", 70, types),
     family("annotations", 65, annotations),
     family("conditions", 70, conditions),
+    family("lengths", 20, lengths),
     family("enums", 50, enums),
     family("flags", 30, flags),
     family("unions", 75, unions),
@@ -110,9 +111,9 @@ fn grown(family: &Family, random: Random) -> Case {
     }
 }
 
-/// A good sheet of one of the first eleven families.
+/// A good sheet of one of the first twelve families.
 fn good_draft(random: &mut Random) -> Draft {
-    let family = &GROWN[random.below(11)];
+    let family = &GROWN[random.below(12)];
     let mut maker = Maker::new(Random::new(random.next(), 0));
     (family.make)(&mut maker);
     if maker.random.chance(50) {
@@ -178,13 +179,26 @@ fn conditions(maker: &mut Maker) {
     field_list(maker);
     for _ in 0..maker.random.between(1, 3) {
         maker.field_record();
-        let optionals = *maker.random.pick(&[0, 0, 0, 1, 1, 2, 3]);
-        for _ in 0..optionals {
-            maker.type_record(kind::OPTIONAL);
-        }
+        maker.optionals();
         maker.ty(2);
         let depth = maker.random.between(2, 6);
         maker.condition(depth);
+    }
+}
+
+/// `len()` of types of every kind, plain and in optionals, around parts with and without a length.
+fn lengths(maker: &mut Maker) {
+    maker.context(3);
+    field_list(maker);
+    for _ in 0..maker.random.between(1, 3) {
+        maker.field_record();
+        maker.optionals();
+        maker.type_around_lengths();
+        if maker.random.chance(20) {
+            maker.add(kind::NOT, 0);
+        }
+        let of_length = *maker.random.pick(&[kind::LEN_CMP, kind::LEN_RANGE]);
+        maker.condition_of(of_length, 2);
     }
 }
 

@@ -18,6 +18,11 @@ impl Maker {
                 kind::LEN_RANGE,
             ])
         };
+        self.condition_of(kind, depth);
+    }
+
+    /// A condition of this kind and at most this depth.
+    pub fn condition_of(&mut self, kind: u8, depth: usize) {
         let (conditions, operands) = condition_parts(kind).unwrap_or((0, 0));
         let sub = self
             .random

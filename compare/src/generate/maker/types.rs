@@ -55,6 +55,38 @@ impl Maker {
         }
     }
 
+    /// No optional, as a rule, or up to three.
+    pub fn optionals(&mut self) {
+        let count = *self.random.pick(&[0, 0, 0, 1, 1, 2, 3]);
+        (0..count).for_each(|_| self.type_record(kind::OPTIONAL));
+    }
+
+    /// A type of any kind, each as likely, whose parts more often than not have a length.
+    pub fn type_around_lengths(&mut self) {
+        let kind = self
+            .random
+            .between(kind::PRIMITIVE.into(), kind::BITS.into()) as u8;
+        self.type_record(kind);
+        for _ in 0..type_parts(kind).unwrap_or(0) {
+            match self.random.below(8) {
+                0 | 1 => {
+                    let text = *self.random.pick(&[sub::STRING, sub::BYTES]);
+                    self.add(kind::SEMANTIC, text);
+                }
+                2..=5 => {
+                    let kinds = [kind::ARRAY, kind::FIXED_ARRAY, kind::SET, kind::MAP];
+                    let collection = *self.random.pick(&kinds);
+                    self.type_of(collection, 2);
+                }
+                6 => {
+                    let float = *self.random.pick(&[sub::F32, sub::F64]);
+                    self.add(kind::PRIMITIVE, float);
+                }
+                _ => self.ty(2),
+            }
+        }
+    }
+
     /// A type without parts.
     pub fn leaf(&mut self) {
         let kinds = [
