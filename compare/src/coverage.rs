@@ -208,7 +208,7 @@ fn get<K: Ord>(counts: &BTreeMap<K, u64>, key: K) -> u64 {
     counts.get(&key).copied().unwrap_or(0)
 }
 
-fn place(index: usize, records: usize) -> Place {
+pub fn place(index: usize, records: usize) -> Place {
     match index {
         0 => Place::First,
         _ if index >= records => Place::End,

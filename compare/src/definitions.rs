@@ -1,12 +1,13 @@
 //! Has the checker compute the definitions of `crates/rules` on recorded cases.
 //!
-//!     definitions RULES CASES OUT            one crate of cases beside a copy of RULES in OUT
-//!     definitions RULES CASES OUT --spoil    the same with one expectation spoiled
-//!     definitions RULES CASES OUT EDITS      tries each edit of EDITS on the definitions
+//!     definitions RULES CASES OUT             one crate of cases beside a copy of RULES in OUT
+//!     definitions RULES CASES OUT --spoil     the same with one expectation spoiled
+//!     definitions RULES CASES OUT EDITS FEW   tries each edit of EDITS on the definitions
 //!
-//! CASES is a file that `compare cases` writes. Each case becomes a statement that the
-//! answer, the list and the rules by which it was found are those of the file; the checker
-//! refuses the statement where the definitions compute to something else.
+//! CASES is a file that `compare cases` writes, FEW the numbers of some of them by `compare
+//! select`. Each case becomes a statement that the answer, the list and the rules by which it
+//! was found are those of the file; the checker refuses the statement where the definitions
+//! compute to something else.
 
 use std::fs;
 use std::io::{Error, ErrorKind, Result};
@@ -16,8 +17,7 @@ use std::process::{Command, ExitCode};
 /// Cases in one file of statements.
 const PER_FILE: usize = 100;
 
-/// The most records of a sheet that is computed in one statement.
-const AT_ONCE: usize = 200;
+const USAGE: &str = "usage: definitions RULES CASES OUT [--spoil | EDITS FEW]";
 
 struct Case {
     sheet: Vec<u8>,
@@ -30,13 +30,15 @@ struct Case {
 fn main() -> ExitCode {
     let arguments: Vec<String> = std::env::args().skip(1).collect();
     let [rules, cases, out, rest @ ..] = arguments.as_slice() else {
-        eprintln!("usage: definitions RULES CASES OUT [--spoil | EDITS]");
+        eprintln!("{USAGE}");
         return ExitCode::FAILURE;
     };
+    let (rules, out) = (Path::new(rules), Path::new(out));
     let done = match rest {
-        [] => compute(Path::new(rules), cases, Path::new(out), false),
-        [spoil] if spoil == "--spoil" => compute(Path::new(rules), cases, Path::new(out), true),
-        [edits, ..] => try_edits(Path::new(rules), cases, Path::new(out), edits),
+        [] => compute(rules, cases, out, false),
+        [spoil] if spoil == "--spoil" => compute(rules, cases, out, true),
+        [edits, few] => try_edits(rules, cases, out, edits, few),
+        _ => Err(Error::new(ErrorKind::InvalidInput, USAGE)),
     };
     match done {
         Ok(true) => ExitCode::SUCCESS,
@@ -55,7 +57,8 @@ fn compute(rules: &Path, cases: &str, out: &Path, spoil: bool) -> Result<bool> {
         let middle = cases.len() / 2;
         cases[middle].values[2] += 1;
     }
-    lay_out(rules, &cases, out)?;
+    let numbered: Vec<(usize, &Case)> = cases.iter().enumerate().collect();
+    lay_out(rules, &numbered, out)?;
     let log = check(out, "cases")?;
     let differing = differing(&log);
     differing.iter().take(20).for_each(|name| println!("differs: {name}"));
@@ -122,81 +125,120 @@ fn text(rest: &mut &[u8]) -> Option<Vec<u8>> {
 
 const TEST: &str = "\
 use Prim.Native.Nat.{ℕ}
-use mathlib.Core.Bool.{Bool}
+use mathlib.Core.Path.{_≡_, refl}
+use mathlib.Core.Bool.{Bool, true, false, _&&_}
 use mathlib.Core.List.{List, [], _∷_, map, flatMap}
-use mathlib.Core.Option.{some, none}
+use mathlib.Core.Option.{Option, some, none}
+use Rattle.rules.specs.declared.span.Span.{Span}
+use Rattle.rules.specs.declared.violation.Violation.{Violation}
+use Rattle.rules.specs.declared.answer.AnswerValues.{AnswerValues}
 use Rattle.rules.specs.Words.{sameBytes}
-use Rattle.rules.specs.Refusals.{refusal}
-use Rattle.rules.specs.Answer.{answer, foundIn}
+use Rattle.rules.specs.Refusals.{Fault, refusal}
+use Rattle.rules.specs.Rule.{Found, violation}
+use Rattle.rules.specs.Answer.{answer, foundIn, fullList, totalOf, errorsOf}
 use Rattle.rules.specs.Buffer.{encode}
 use Rattle.rules.specs.Table.{told}
 
+-- what is expected of a sheet and a names text: the answer's numbers, the list's bytes, and the rules by which it was found
 unfoldable pub rulesOf : List ℕ → List ℕ → List ℕ
 rulesOf sheet names = elim (refusal sheet names) [ some f ↦ [] | none ↦ map (λ f. f .rule) (foundIn sheet names) ]
 
-unfoldable pub valuesTest : List ℕ → List ℕ → List ℕ → Bool
-valuesTest sheet names values =
-    let a = answer sheet names in sameBytes (a .number ∷ a .index ∷ a .total ∷ a .errors ∷ []) values
+unfoldable pub valuesTest : AnswerValues → List ℕ → Bool
+valuesTest a values = sameBytes (a .number ∷ a .index ∷ a .total ∷ a .errors ∷ []) values
 
-unfoldable pub listTest : List ℕ → List ℕ → List ℕ → Bool
-listTest sheet names list = sameBytes (flatMap encode (told sheet names)) list
+unfoldable pub expected : List ℕ → List ℕ → List ℕ → List ℕ → List ℕ → Bool
+expected sheet names values list rules =
+    valuesTest (answer sheet names) values
+    && sameBytes (flatMap encode (told sheet names)) list
+    && sameBytes (rulesOf sheet names) rules
 
-unfoldable pub rulesTest : List ℕ → List ℕ → List ℕ → Bool
-rulesTest sheet names rules = sameBytes (rulesOf sheet names) rules
+-- the same, with the refusal and the list computed once
+unfoldable pub foundTest : List (Found Span) → List ℕ → List ℕ → List ℕ → Bool
+foundTest found values list rules =
+    let vs : List Violation = map violation found in
+    valuesTest (record { number = 0; index = 0; total = totalOf vs; errors = errorsOf vs }) values
+    && sameBytes (flatMap encode vs) list
+    && sameBytes (map (λ f. f .rule) found) rules
+
+unfoldable pub caseTest : List ℕ → List ℕ → List ℕ → List ℕ → List ℕ → Bool
+caseTest sheet names values list rules =
+    elim (refusal sheet names) [
+      | some f ↦ valuesTest (record { number = f .number; index = f .index; total = 0; errors = 0 }) values
+        && sameBytes (flatMap encode []) list
+        && sameBytes [] rules
+      | none ↦ foundTest (foundIn sheet names) values list rules
+    ]
+
+by-refusal :
+    (sheet names values list rules : List ℕ)
+    → (r : Option Fault)
+    → refusal sheet names ≡ r
+    → expected sheet names values list rules ≡ caseTest sheet names values list rules
+unfolding expected rulesOf caseTest foundTest answer told fullList
+by-refusal sheet names values list rules none h = rw (h, answer, told, rulesOf, caseTest) refl
+by-refusal sheet names values list rules (some f) h = rw (h, answer, told, rulesOf, caseTest) refl
+
+pub test-expected : (sheet names values list rules : List ℕ) → expected sheet names values list rules ≡ caseTest sheet names values list rules
+test-expected sheet names values list rules = by-refusal sheet names values list rules (refusal sheet names) refl
 ";
 
 const USES: &str = "\
 use mathlib.Core.Path.{_≡_, refl}
-use mathlib.Core.Bool.{true, _&&_}
+use mathlib.Core.Bool.{true}
 use mathlib.Core.List.{[], _∷_, flatten}
 use Rattle.rules.specs.Words.{bytes}
-use Rattle.rules.specs.Table.{told}
 use Rattle.rules.proofs.Computed.{computed}
-use Rattle.cases.proofs.Test.{valuesTest, listTest, rulesTest, rulesOf}
+use Rattle.cases.proofs.Test.{valuesTest, foundTest, caseTest}
 ";
 
-fn lay_out(rules: &Path, cases: &[Case], out: &Path) -> Result<()> {
+/// The proofs of the rules that stand beside the cases.
+const BESIDE: [&str; 2] = ["Computed", "Table"];
+
+fn lay_out(rules: &Path, cases: &[(usize, &Case)], out: &Path) -> Result<()> {
     if out.exists() {
         fs::remove_dir_all(out)?;
     }
+    let ours = out.join("crates/rules");
+    for part in ["src", "specs"] {
+        copy(&rules.join(part), &ours.join(part))?;
+    }
+    fs::create_dir_all(ours.join("proofs"))?;
+    for module in BESIDE {
+        let file = format!("proofs/{module}.antt");
+        fs::copy(rules.join(&file), ours.join(&file))?;
+    }
+    fs::write(ours.join("proofs/Lib.antt"), declared(BESIDE))?;
+
     let proofs = out.join("crates/cases/proofs");
     fs::create_dir_all(out.join("crates/cases/src"))?;
     fs::create_dir_all(&proofs)?;
-    for part in ["src", "specs", "proofs"] {
-        copy(&rules.join(part), &out.join("crates/rules").join(part))?;
-    }
     fs::write(out.join("crates.txt"), "rules:\ncases: rules\n")?;
     fs::write(out.join("crates/cases/src/lib.rt"), "// Cases that the definitions are computed on.\n")?;
     fs::write(proofs.join("Test.antt"), TEST)?;
-    let mut modules = String::from("pub mod Test\n");
+    let mut modules = vec!["Test".to_string()];
     for (number, chunk) in cases.chunks(PER_FILE).enumerate() {
-        modules += &format!("pub mod Cases{number}\n");
-        let mut file = String::from(USES);
-        for (i, case) in chunk.iter().enumerate() {
-            file += &statement(number * PER_FILE + i, case);
-        }
+        let statements = chunk.iter().map(|(i, case)| statement(*i, case));
+        let file = USES.to_string() + &statements.collect::<String>();
         fs::write(proofs.join(format!("Cases{number}.antt")), file)?;
+        modules.push(format!("Cases{number}"));
     }
-    fs::write(proofs.join("Lib.antt"), modules)
+    fs::write(proofs.join("Lib.antt"), declared(modules))
 }
 
-/// A case is one statement, or three where one would take the checker too long.
+/// The text of a `Lib.antt` that declares these modules.
+fn declared<T: std::fmt::Display>(modules: impl IntoIterator<Item = T>) -> String {
+    modules.into_iter().map(|module| format!("pub mod {module}\n")).collect()
+}
+
+/// The statement that a case passes the test.
 fn statement(i: usize, case: &Case) -> String {
     let (sheet, names) = (bytes(&case.sheet), bytes(&case.names));
-    let tests = [
-        format!("valuesTest {sheet} {names} {}", list(&case.values)),
-        format!("listTest {sheet} {names} {}", bytes(&case.list)),
-        format!("rulesTest {sheet} {names} {}", list(&case.rules)),
-    ];
-    let stated = |name: String, test: &str| {
-        let unfolded = "computed told valuesTest listTest rulesTest rulesOf";
-        format!("\n{name} : ({test}) ≡ true\nunfolding {unfolded}\n{name} = refl\n")
-    };
-    if case.sheet.len() <= 32 * AT_ONCE {
-        stated(format!("case-{i}"), &tests.join(" && "))
-    } else {
-        (1..).zip(&tests).map(|(part, test)| stated(format!("case-{i}-{part}"), test)).collect()
-    }
+    let expected = [list(&case.values), bytes(&case.list), list(&case.rules)].join(" ");
+    format!(
+        "\ncase-{i} : caseTest {sheet} {names} {expected} ≡ true\n\
+         unfolding computed caseTest foundTest valuesTest\n\
+         case-{i} = refl\n"
+    )
 }
 
 /// Bytes as little-endian numbers of 32 bytes each, which are read far more quickly than a list.
@@ -270,60 +312,80 @@ struct Change {
     new: String,
 }
 
+/// What catches a mistake.
+#[derive(Clone, Copy)]
+enum By {
+    Table,
+    Run,
+    Theorem,
+    Nothing,
+}
+
 /// Tries each edit: the proved table must refuse it, or a case must differ, or a theorem must refuse it.
-fn try_edits(rules: &Path, cases: &str, out: &Path, edits: &str) -> Result<bool> {
+fn try_edits(rules: &Path, cases: &str, out: &Path, edits: &str, few: &str) -> Result<bool> {
     let cases = read(&fs::read(cases)?)?;
+    let all: Vec<(usize, &Case)> = cases.iter().enumerate().collect();
+    let few: Vec<(usize, &Case)> = read_few(&fs::read_to_string(few)?, &all)?;
     let edits = read_edits(&fs::read_to_string(edits)?)?;
     let mut counts = [0; 4];
     for edit in &edits {
-        let (how, caught) = try_edit(rules, &cases, out, edit)?;
-        counts[how] += 1;
-        println!("{}: {caught}", edit.label);
+        let (by, at) = try_edit(rules, &few, &all, out, edit)?;
+        counts[by as usize] += 1;
+        println!("{}: {at}", edit.label);
     }
     println!(
         "{} edits: {} caught by the table, {} by the run, {} by a theorem, {} not caught",
         edits.len(),
-        counts[0],
-        counts[1],
-        counts[2],
-        counts[3]
+        counts[By::Table as usize],
+        counts[By::Run as usize],
+        counts[By::Theorem as usize],
+        counts[By::Nothing as usize]
     );
-    Ok(counts[3] == 0)
+    Ok(counts[By::Nothing as usize] == 0)
 }
 
-fn try_edit(rules: &Path, cases: &[Case], out: &Path, edit: &Edit) -> Result<(usize, String)> {
-    lay_out(rules, cases, out)?;
+/// The cases whose numbers stand in the text, one to a line.
+fn read_few<'c>(text: &str, all: &[(usize, &'c Case)]) -> Result<Vec<(usize, &'c Case)>> {
+    let wrong = || Error::new(ErrorKind::InvalidData, "no file of numbers of cases");
+    text.lines()
+        .map(|line| line.parse().ok().and_then(|i: usize| all.get(i).copied()).ok_or_else(wrong))
+        .collect()
+}
+
+/// What catches an edit: the table or one of few cases, else a theorem, else one of all cases.
+fn try_edit(
+    rules: &Path,
+    few: &[(usize, &Case)],
+    all: &[(usize, &Case)],
+    out: &Path,
+    edit: &Edit,
+) -> Result<(By, String)> {
     let ours = out.join("crates/rules");
+    lay_out(rules, few, out)?;
     apply(&ours, edit)?;
-    let theorems = fs::read(ours.join("proofs/Lib.antt"))?;
-    keep_only(&ours.join("proofs"), &["Computed", "Table"])?;
     let log = check(out, "cases")?;
     if let Some(case) = differing(&log).first() {
-        return Ok((1, format!("caught by the run at {case}")));
+        return Ok((By::Run, format!("caught by the run at {case}")));
     }
     if !is_proved(&log) {
-        return Ok((0, format!("caught by the table at {}", first_refusal(&log))));
+        let at = first_refusal(&log);
+        if at != "table-passes" {
+            let message = format!("{}: not refused by the table but at {at}\n{log}", edit.label);
+            return Err(Error::new(ErrorKind::InvalidInput, message));
+        }
+        return Ok((By::Table, format!("caught by the table at {at}")));
     }
     copy(&rules.join("proofs"), &ours.join("proofs"))?;
-    fs::write(ours.join("proofs/Lib.antt"), theorems)?;
     let log = check(out, "rules")?;
     if !is_proved(&log) {
-        return Ok((2, format!("caught by a theorem at {}", first_refusal(&log))));
+        return Ok((By::Theorem, format!("caught by a theorem at {}", first_refusal(&log))));
     }
-    Ok((3, "NOT CAUGHT".to_string()))
-}
-
-/// Leaves those modules of a folder of proofs.
-fn keep_only(proofs: &Path, modules: &[&str]) -> Result<()> {
-    for entry in fs::read_dir(proofs)? {
-        let path = entry?.path();
-        let stem = path.file_stem().and_then(|stem| stem.to_str()).unwrap_or_default().to_string();
-        if path.is_file() && !modules.contains(&stem.as_str()) {
-            fs::remove_file(path)?;
-        }
-    }
-    let lines: String = modules.iter().map(|module| format!("pub mod {module}\n")).collect();
-    fs::write(proofs.join("Lib.antt"), lines)
+    lay_out(rules, all, out)?;
+    apply(&ours, edit)?;
+    Ok(match differing(&check(out, "cases")?).first() {
+        Some(case) => (By::Run, format!("caught by the run at {case}")),
+        None => (By::Nothing, "NOT CAUGHT".to_string()),
+    })
 }
 
 /// An edit is a line with its label, then one or more changes: `file:`, `old:` and `new:` lines.

@@ -12,6 +12,7 @@ mod reading;
 mod reading_test;
 mod record;
 mod run;
+mod select;
 mod self_test;
 
 use generate::{small, Case};
@@ -32,6 +33,9 @@ compare reading-test                   holds the second reading to hand-made she
 compare show SHEET NAMES               both answers for one case, given as hex
 compare cases [--cases N] [--seed S] [--small] --out FILE
                                        writes cases with their answers to a file
+compare select [--cases N] [--seed S] --out FILE
+                                       writes the numbers of few of those cases that have,
+                                       between them, what the many have
 compare record --out FILE              writes the cases that the repository keeps, one of them
                                        spoiled, in the same form
 ";
@@ -60,6 +64,7 @@ fn main() -> ExitCode {
         "reading-test" => Ok(reading_test()),
         "show" => show(rest),
         "cases" => options(rest).and_then(|options| cases_command(&options)),
+        "select" => options(rest).and_then(|options| select_command(&options)),
         "record" => options(rest).and_then(|options| recorded_command(&options)),
         _ => {
             print!("{HELP}");
@@ -262,6 +267,16 @@ fn cases_command(options: &Options) -> Result<bool, String> {
     }
     out.flush().map_err(told)?;
     println!("{count} cases written");
+    Ok(true)
+}
+
+/// Writes the numbers of the chosen cases, one to a line.
+fn select_command(options: &Options) -> Result<bool, String> {
+    let path = options.out.as_ref().ok_or("select needs --out FILE")?;
+    let chosen = select::selection(options.seed, options.cases.unwrap_or(CASES));
+    let lines: String = chosen.iter().map(|i| format!("{i}\n")).collect();
+    std::fs::write(path, lines).map_err(|error| format!("{path}: {error}"))?;
+    println!("{} cases chosen", chosen.len());
     Ok(true)
 }
 
