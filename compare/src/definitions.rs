@@ -17,6 +17,9 @@ use std::process::{Command, ExitCode};
 /// Cases in one file of statements.
 const PER_FILE: usize = 100;
 
+/// Cases that are checked together where an edit is tried on all.
+const TOGETHER: usize = 1000;
+
 const USAGE: &str = "usage: definitions RULES CASES OUT [--spoil | EDITS FEW]";
 
 struct Case {
@@ -324,8 +327,9 @@ enum By {
 /// Tries each edit: the proved table must refuse it, or a case must differ, or a theorem must refuse it.
 fn try_edits(rules: &Path, cases: &str, out: &Path, edits: &str, few: &str) -> Result<bool> {
     let cases = read(&fs::read(cases)?)?;
-    let all: Vec<(usize, &Case)> = cases.iter().enumerate().collect();
+    let mut all: Vec<(usize, &Case)> = cases.iter().enumerate().collect();
     let few: Vec<(usize, &Case)> = read_few(&fs::read_to_string(few)?, &all)?;
+    all.sort_by_key(|(_, case)| case.sheet.len() + case.names.len());
     let edits = read_edits(&fs::read_to_string(edits)?)?;
     let mut counts = [0; 4];
     for edit in &edits {
@@ -352,7 +356,7 @@ fn read_few<'c>(text: &str, all: &[(usize, &'c Case)]) -> Result<Vec<(usize, &'c
         .collect()
 }
 
-/// What catches an edit: the table or one of few cases, else a theorem, else one of all cases.
+/// What catches an edit: the table or one of few cases, else a theorem, else one of all cases, the short ones first.
 fn try_edit(
     rules: &Path,
     few: &[(usize, &Case)],
@@ -380,12 +384,14 @@ fn try_edit(
     if !is_proved(&log) {
         return Ok((By::Theorem, format!("caught by a theorem at {}", first_refusal(&log))));
     }
-    lay_out(rules, all, out)?;
-    apply(&ours, edit)?;
-    Ok(match differing(&check(out, "cases")?).first() {
-        Some(case) => (By::Run, format!("caught by the run at {case}")),
-        None => (By::Nothing, "NOT CAUGHT".to_string()),
-    })
+    for part in all.chunks(TOGETHER) {
+        lay_out(rules, part, out)?;
+        apply(&ours, edit)?;
+        if let Some(case) = differing(&check(out, "cases")?).first() {
+            return Ok((By::Run, format!("caught by the run at {case}")));
+        }
+    }
+    Ok((By::Nothing, "NOT CAUGHT".to_string()))
 }
 
 /// An edit is a line with its label, then one or more changes: `file:`, `old:` and `new:` lines.

@@ -34,14 +34,15 @@ compare show SHEET NAMES               both answers for one case, given as hex
 compare cases [--cases N] [--seed S] [--small] --out FILE
                                        writes cases with their answers to a file
 compare select [--cases N] [--seed S] --out FILE
-                                       writes the numbers of few of those cases that have,
-                                       between them, what the many have
+                                       writes the numbers of few of those cases (5,000) that
+                                       have, between them, what the many have
 compare record --out FILE              writes the cases that the repository keeps, one of them
                                        spoiled, in the same form
 ";
 
 const CASES: u64 = 1_000_000;
 const LAW_CASES: u64 = 100_000;
+const SELECT_CASES: u64 = 5_000;
 const SEED: u64 = 1;
 
 fn main() -> ExitCode {
@@ -273,7 +274,8 @@ fn cases_command(options: &Options) -> Result<bool, String> {
 /// Writes the numbers of the chosen cases, one to a line.
 fn select_command(options: &Options) -> Result<bool, String> {
     let path = options.out.as_ref().ok_or("select needs --out FILE")?;
-    let chosen = select::selection(options.seed, options.cases.unwrap_or(CASES));
+    let cases = options.cases.unwrap_or(SELECT_CASES);
+    let chosen = select::selection(options.seed, cases);
     let lines: String = chosen.iter().map(|i| format!("{i}\n")).collect();
     std::fs::write(path, lines).map_err(|error| format!("{path}: {error}"))?;
     println!("{} cases chosen", chosen.len());

@@ -12,7 +12,7 @@ use std::collections::BTreeSet;
 /// The most records of a chosen case: a full sheet takes the checker as long as many small ones.
 const SHORT: usize = 100;
 /// How many cases are chosen; more if they lack something necessary.
-const ENOUGH: usize = 200;
+const ENOUGH: usize = 250;
 
 /// A kind, and a sub if the kind has subs.
 type KindAndSub = (u8, u8);
@@ -29,6 +29,8 @@ enum Trait {
     Record(KindAndSub),
     /// The row, the kind of the record that is refused, and whether it stands far into the sheet.
     RefusedAt(u32, u8, bool),
+    /// The kind that row 3 refuses, and whether for the first sub that the kind does not have.
+    Unknown(u8, bool),
     /// The row by which a case of a family is refused.
     FamilyRefused(&'static str, u32),
     /// The head's sub, the item's kind and an ordinal next to a limit.
@@ -60,6 +62,9 @@ impl Trait {
                 | Trait::Refusal(..)
                 | Trait::Violation(..)
                 | Trait::Record(..)
+                | Trait::Unknown(..)
+                | Trait::Ordinal(..)
+                | Trait::Annotated(..)
                 | Trait::BitName(..)
         )
     }
@@ -135,6 +140,10 @@ fn traits(sheet: &[u8], names: &[u8], answer: &Answer) -> BTreeSet<Trait> {
         let kind = records.get(index).map_or(0, |record| record.kind);
         traits.insert(Trait::Refusal(answer.number, place(index, records.len())));
         traits.insert(Trait::RefusedAt(answer.number, kind, index >= DEPTH_LIMIT));
+        if answer.number == 3 {
+            let is_next = subs(kind).is_some_and(|count| count > 0 && records[index].sub == count);
+            traits.insert(Trait::Unknown(kind, is_next));
+        }
         return traits;
     }
     for violation in &answer.list {

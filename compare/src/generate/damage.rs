@@ -42,16 +42,25 @@ fn index(draft: &Draft, place: Place, random: &mut Random) -> usize {
     }
 }
 
-/// Row 3.
+/// Row 3: byte 3, a sub at a record whose kind has subs if there is one, or a kind.
 fn unknown(draft: &mut Draft, place: Place, random: &mut Random) -> usize {
+    let count = |record: &Record| subs(record.kind).unwrap_or(0);
+    let what = random.below(3);
+    let with_subs = (what == 1).then(|| find(draft, place, random, |r| count(r) > 0));
+    if let Some(at) = with_subs.flatten() {
+        let known = count(&draft.records[at]);
+        draft.records[at].sub = if random.chance(50) {
+            known
+        } else {
+            random.between(known.into(), 255) as u8
+        };
+        return at;
+    }
     let at = index(draft, place, random);
-    let record = &mut draft.records[at];
-    let count = subs(record.kind).unwrap_or(0);
-    match random.below(3) {
-        0 => record.byte3 = random.byte() | 1,
-        1 if count > 0 && random.chance(50) => record.sub = count,
-        1 if count > 0 => record.sub = random.between(usize::from(count), 255) as u8,
-        _ => record.kind = unknown_kind(random),
+    if what == 0 {
+        draft.records[at].byte3 = random.byte() | 1;
+    } else {
+        draft.records[at].kind = unknown_kind(random);
     }
     at
 }
