@@ -15,7 +15,6 @@ pub told-printed :
     Answered sheet names old values list → 36864 ≤ length old →
     (r ≡ length (linesOf values list)) × (out₁ ≡ linesOf values list ++ drop r out) × (r ≤ length out₁) →
     (r ≡ length (printed sheet names)) × (out₁ ≡ printed sheet names ++ drop r out) × (r ≤ length out₁)
-unfolding Answered
 told-printed sheet names old list out out₁ values r bytes a room told =
     let same : linesOf values list ≡ printed sheet names
     = ap (λ v. linesOf v list) (a .0) ∙ ap (linesOf (answer sheet names)) (a .1) ∙ lines-printed sheet names old bytes room in

@@ -13,6 +13,5 @@ lines-spec =
     (λ c κs. search needs)
     (λ c. search needs)
     (λ c κs. search needs)
-    (λ c. let checked = c .before .before .before .before in
-    let bytes = checked .before .before .before .shared-slice-known in
-    told-printed _ _ _ _ _ _ _ _ (λ i. bytes .given i .fits) (checked .vexil-check .ensures) (omega arith) (c .report .ensures)))
+    (λ c. let checked = c .before .before .before .before .vexil-check .ensures in
+    told-printed _ _ _ _ _ _ _ _ (checked .1) (checked .0) (omega arith) (c .report .ensures)))
