@@ -8,7 +8,6 @@ use lib.Dec.{leb}
 use borrow.Author.Tests.{ne-eqb, le-leb, lt-leb}
 use Rattle.rules.specs.declared.span.Span.{Span}
 use Rattle.rules.specs.Words.{onlyIf}
-use Rattle.rules.specs.Kind
 use Rattle.rules.specs.Record.{Rec, recordBytes, subIn}
 use Rattle.rules.specs.Context.{ValidationContext}
 use Rattle.rules.specs.Rule.{Found}

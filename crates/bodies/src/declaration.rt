@@ -12,7 +12,7 @@ ghost use Rattle.names.specs.View.{viewOf, contextBy};
 ghost use Rattle.diagnostic.specs.Push.{pushFound};
 use crate::enums::check_enum;
 use crate::flags::check_flags;
-use crate::message::check_message_body;
+use crate::message::check_message;
 use crate::newtype::check_newtype;
 use crate::runs::Run;
 use crate::runs::run_end;
@@ -34,7 +34,7 @@ fn check_body(
     ensures { λ r. ⌜ _≡_ {A = List ℕ × Counts} (now (list .exit), r) (pushFound (bodyViolations (contextBy (now (table .entry)) (now (sheet .entry))) sub (viewOf (now (sheet .entry)) a e)) (now (list .entry), counts)) ⌝ }
 {
     match sub {
-        0 => check_message_body(sheet, table, list, counts, a, e),
+        0 => check_message(sheet, table, list, counts, a, e),
         1 => check_enum(sheet, table, list, counts, a, e),
         2 => check_flags(sheet, table, list, counts, a, e),
         3 => check_union(sheet, table, list, counts, a, e),

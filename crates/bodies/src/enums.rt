@@ -5,7 +5,6 @@ ghost use Prim.Native.Nat.{ℕ, _≤_, _-_};
 ghost use Rattle.rules.specs.declared.answer.Counts.{Counts};
 ghost use mathlib.Core.Bool.{false};
 ghost use lib.Dec.{ltb};
-ghost use Rattle.rules.specs.Kind;
 ghost use Rattle.rules.specs.Words.{anyOf};
 ghost use Rattle.rules.specs.Bodies.{backingMax, enumScheme, bodyItems, slots, usedOrdinals, listViolations, enumViolations};
 ghost use Rattle.names.specs.View.{viewAt, viewOf, contextBy};

@@ -1,7 +1,7 @@
 // A field list: rules 1 to 30.
 ghost use mathlib.Core.Path.{_≡_};
 ghost use mathlib.Core.List.{List};
-ghost use Prim.Native.Nat.{ℕ, _<_, _≤_, _+_, _-_};
+ghost use Prim.Native.Nat.{ℕ, _<_, _≤_, _-_};
 ghost use Rattle.rules.specs.declared.answer.Counts.{Counts};
 ghost use Rattle.rules.specs.Kind;
 ghost use Rattle.rules.specs.Record.{is};
@@ -131,4 +131,19 @@ pub fn check_message_body(
         i += 1;
     }
     counts
+}
+
+// Adds what is wrong with the message whose body stands at records `a` up to `e`.
+pub fn check_message(
+    sheet: &[u8],
+    table: &[u16; 5122],
+    list: &mut [u8],
+    counts: Counts,
+    a: usize,
+    e: usize,
+) -> Counts
+    requires { ⌜ e - a ≤ 1024 ⌝ }
+    ensures { λ r. ⌜ _≡_ {A = List ℕ × Counts} (now (list .exit), r) (pushFound (fieldListViolations (contextBy (now (table .entry)) (now (sheet .entry))) (viewOf (now (sheet .entry)) a e)) (now (list .entry), counts)) ⌝ }
+{
+    check_message_body(sheet, table, list, counts, a, e)
 }

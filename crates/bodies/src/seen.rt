@@ -1,6 +1,6 @@
 // The numbers already met.
 ghost use mathlib.Core.Path.{_≡_};
-ghost use Prim.Native.Nat.{_≤_, _+_, _-_};
+ghost use Prim.Native.Nat.{_≤_, _-_};
 ghost use lib.ListN.{length};
 ghost use Rattle.rules.specs.Words.{member};
 ghost use Rattle.names.specs.View.{viewOf};
