@@ -45,7 +45,7 @@ fn told(v: &Violation) -> Told {
 fn difference(name: &str, ours: &[Told], theirs: &[Told]) -> String {
     let at = ours.iter().zip(theirs).take_while(|(a, b)| a == b).count();
     format!(
-        "oracle {name}, first difference at violation {at}: reading {:?}, oracle {:?}",
+        "oracle {name}, first difference at violation {at}: ours {:?}, oracle {:?}",
         ours.get(at),
         theirs.get(at)
     )

@@ -1,34 +1,63 @@
-//! What demand 3 and document 01 say of every accepted sheet, tried on the second reading:
-//! items moved, items added, fields counted, unused bytes changed, the bound on the total.
+//! What demand 3 and document 01 say of every accepted sheet, tried on whatever answers:
+//! items moved, names laid out anew, items added, fields counted, unused bytes changed, the
+//! bound on the total.
 
-use crate::format::{kind, sub, Record, NAMES_LIMIT, RECORD, SHEET_LIMIT};
+use crate::format::{has_name, kind, Record, NAMES_LIMIT, RECORD, SHEET_LIMIT};
 use crate::generate::{self, fill_unused, Case};
+use crate::items::{split, Body, Item, FIELD_ITEMS};
 use crate::random::Random;
-use crate::reading::{answer, Answer};
-use std::collections::{BTreeMap, HashSet};
+use crate::reading::Answer;
+use std::collections::{BTreeMap, HashMap, HashSet};
 
-/// How often each law was tried, and how often it failed.
-#[derive(Default)]
-pub struct Tried {
-    pub laws: BTreeMap<&'static str, (u64, u64)>,
+/// How many laws there are.
+const LAWS: usize = 10;
+
+/// What is tried, how often each law was tried on it, and how often it failed.
+pub struct Tried<'a> {
+    answer: &'a dyn Fn(&[u8], &[u8]) -> Answer,
+    laws: BTreeMap<&'static str, (u64, u64)>,
+    /// The number of the case that is tried.
+    case: u64,
+    /// The law that failed first, and the case.
+    first: Option<(&'static str, u64)>,
 }
 
-impl Tried {
+impl Tried<'_> {
+    fn answer(&self, sheet: &[u8], names: &[u8]) -> Answer {
+        (self.answer)(sheet, names)
+    }
+
     fn note(&mut self, law: &'static str, holds: bool) {
         let (tried, failed) = self.laws.entry(law).or_default();
         *tried += 1;
         *failed += u64::from(!holds);
+        if !holds && self.first.is_none() {
+            self.first = Some((law, self.case));
+        }
     }
 
-    pub fn failed(&self) -> u64 {
-        self.laws.values().map(|(_, failed)| failed).sum()
+    /// Prints the counts; true if every law was tried and none failed.
+    pub fn print(&self) -> bool {
+        for (law, (count, failed)) in &self.laws {
+            println!("{law}: tried {count}, failed {failed}");
+        }
+        if let Some((law, case)) = self.first {
+            println!("failed first: {law}, on case {case}");
+        }
+        self.laws.len() == LAWS && self.first.is_none()
     }
 }
 
-/// Tries every law on the cases of a seed.
-pub fn try_all(seed: u64, count: u64) -> Tried {
-    let mut tried = Tried::default();
+/// Tries every law on the cases of a seed, as `answer` answers them.
+pub fn try_all(seed: u64, count: u64, answer: &dyn Fn(&[u8], &[u8]) -> Answer) -> Tried<'_> {
+    let mut tried = Tried {
+        answer,
+        laws: BTreeMap::new(),
+        case: 0,
+        first: None,
+    };
     for i in 0..count {
+        tried.case = i;
         let case = generate::case(seed, i);
         let before = answer(&case.sheet, &case.names);
         let mut random = Random::new(!seed, i);
@@ -40,84 +69,13 @@ pub fn try_all(seed: u64, count: u64) -> Tried {
             let body = Body::of(&case.sheet);
             bound(&case, &before, &mut tried);
             fields_counted(&body, &before, &mut tried);
-            moved(&case, &body, &before, &mut random, &mut tried);
+            let moved = moved(&case, &body, &before, &mut random, &mut tried);
+            laid_out(&case, [&body, &moved], &before, &mut random, &mut tried);
             let other = generate::case(seed, random.next());
             added(&case, body, &other, &before, &mut random, &mut tried);
         }
     }
     tried
-}
-
-// ---------------------------------------------------------------------------
-// Items
-// ---------------------------------------------------------------------------
-
-type Item = Vec<Record>;
-
-/// What stands before the items, and the items, each whole.
-struct Body {
-    front: Vec<Record>,
-    head: u8,
-    items: Vec<Item>,
-}
-
-impl Body {
-    fn of(sheet: &[u8]) -> Body {
-        let mut records = sheet.chunks_exact(RECORD).map(Record::decode);
-        let mut front: Vec<Record> = Vec::new();
-        while front.last().is_none_or(|record| record.kind != kind::HEAD) {
-            front.extend(records.next());
-        }
-        let head = front[front.len() - 1].sub;
-        let starts = if head == sub::HEAD_MESSAGE {
-            FIELD_ITEMS
-        } else {
-            VARIANT_ITEMS
-        };
-        let rest: Vec<Record> = records.collect();
-        let (before, items) = split(&rest, starts);
-        front.extend(before);
-        Body { front, head, items }
-    }
-
-    fn sheet(&self) -> Vec<u8> {
-        let records = self.front.iter().chain(self.items.iter().flatten());
-        records.flat_map(Record::encode).collect()
-    }
-
-    fn is_union(&self) -> bool {
-        self.head == sub::HEAD_UNION
-    }
-
-    /// The field lists: a message's items, or each variant's fields.
-    fn field_lists(&self) -> Vec<Vec<Item>> {
-        match self.head {
-            sub::HEAD_MESSAGE => vec![self.items.clone()],
-            sub::HEAD_UNION => self
-                .items
-                .iter()
-                .map(|item| split(item, FIELD_ITEMS).1)
-                .collect(),
-            _ => Vec::new(),
-        }
-    }
-}
-
-const FIELD_ITEMS: &[u8] = &[kind::FIELD, kind::FIELD_TOMBSTONE, kind::INVARIANT];
-const VARIANT_ITEMS: &[u8] = &[kind::VARIANT, kind::TOMBSTONE];
-
-/// The records before the first start, and those from each start to the next.
-fn split(records: &[Record], starts: &[u8]) -> (Vec<Record>, Vec<Item>) {
-    let mut before = Vec::new();
-    let mut items: Vec<Item> = Vec::new();
-    for record in records {
-        if starts.contains(&record.kind) {
-            items.push(vec![*record]);
-        } else {
-            items.last_mut().unwrap_or(&mut before).push(*record);
-        }
-    }
-    (before, items)
 }
 
 /// How often each class and severity occurs.
@@ -141,22 +99,20 @@ fn unused_bytes(case: &Case, before: &Answer, random: &mut Random, tried: &mut T
         fill_unused(&mut record, random);
         bytes.copy_from_slice(&record.encode());
     }
-    tried.note(
-        "unused bytes alter no answer",
-        answer(&sheet, &case.names) == *before,
-    );
+    let holds = tried.answer(&sheet, &case.names) == *before;
+    tried.note("unused bytes alter no answer", holds);
 }
 
 /// What stands after the first fault does not matter, and before it there is none.
 fn first_fault(case: &Case, before: &Answer, tried: &mut Tried) {
     let index = before.index as usize;
     let end = case.sheet.len().min((index + 1) * RECORD);
-    let with_it = answer(&case.sheet[..end], &case.names);
+    let with_it = tried.answer(&case.sheet[..end], &case.names);
     tried.note(
         "a refusal stays when the sheet is cut after it",
         with_it == *before,
     );
-    let without = answer(&case.sheet[..index * RECORD], &case.names);
+    let without = tried.answer(&case.sheet[..index * RECORD], &case.names);
     let early_end = without.number == 6 && without.index == before.index;
     let no_fault = matches!(without.number, 0 | 9) || early_end;
     tried.note("before a refusal there is no fault", no_fault);
@@ -195,7 +151,13 @@ fn fields_counted(body: &Body, before: &Answer, tried: &mut Tried) {
 }
 
 /// Items in another order: accepted again, each class and severity as often.
-fn moved(case: &Case, body: &Body, before: &Answer, random: &mut Random, tried: &mut Tried) {
+fn moved(
+    case: &Case,
+    body: &Body,
+    before: &Answer,
+    random: &mut Random,
+    tried: &mut Tried,
+) -> Body {
     let mut items = body.items.clone();
     if body.is_union() {
         for item in &mut items {
@@ -215,12 +177,65 @@ fn moved(case: &Case, body: &Body, before: &Answer, random: &mut Random, tried: 
         head: body.head,
         items,
     };
-    let after = answer(&moved.sheet(), &case.names);
+    let after = tried.answer(&moved.sheet(), &case.names);
     tried.note("moved items: accepted again", after.number == 0);
     tried.note(
         "moved items: every class as often",
         tally(&after) == tally(before),
     );
+    moved
+}
+
+/// Every name kept in a names text laid out anew: the same answer where the items stay, and
+/// every class as often where they moved.
+fn laid_out(
+    case: &Case,
+    [stays, moved]: [&Body; 2],
+    before: &Answer,
+    random: &mut Random,
+    tried: &mut Tried,
+) {
+    if let Some((sheet, names)) = anew(&stays.sheet(), &case.names, random) {
+        let holds = tried.answer(&sheet, &names) == *before;
+        tried.note("names laid out anew: the same answer", holds);
+    }
+    if let Some((sheet, names)) = anew(&moved.sheet(), &case.names, random) {
+        let after = tried.answer(&sheet, &names);
+        let holds = after.number == 0 && tally(&after) == tally(before);
+        tried.note(
+            "names laid out anew, items moved: every class as often",
+            holds,
+        );
+    }
+}
+
+/// The sheet with every name at a place of its own, or at one for all names with its bytes,
+/// among noise; `None` if that names text is too long.
+fn anew(sheet: &[u8], names: &[u8], random: &mut Random) -> Option<(Vec<u8>, Vec<u8>)> {
+    let mut records: Vec<Record> = sheet.chunks_exact(RECORD).map(Record::decode).collect();
+    let mut order: Vec<usize> = (0..records.len()).collect();
+    random.shuffle(&mut order);
+    let once = random.chance(50);
+    let mut text: Vec<u8> = Vec::new();
+    let mut places: HashMap<Vec<u8>, u32> = HashMap::new();
+    for i in order {
+        let record = &mut records[i];
+        if !has_name(record.kind, record.sub) {
+            continue;
+        }
+        let part = &names[record.name_offset as usize..record.name_end() as usize];
+        if let Some(&place) = places.get(part).filter(|_| once) {
+            record.name_offset = place;
+            continue;
+        }
+        let noise = random.below(3);
+        text.extend((0..noise).map(|_| random.byte()));
+        record.name_offset = text.len() as u32;
+        places.insert(part.to_vec(), record.name_offset);
+        text.extend_from_slice(part);
+    }
+    let sheet = records.iter().flat_map(Record::encode).collect();
+    (text.len() <= NAMES_LIMIT).then_some((sheet, text))
 }
 
 /// Items of another sheet added: no class less often, 14 and 16 counted together.
@@ -232,7 +247,7 @@ fn added(
     random: &mut Random,
     tried: &mut Tried,
 ) {
-    if answer(&other.sheet, &other.names).number != 0 {
+    if tried.answer(&other.sheet, &other.names).number != 0 {
         return;
     }
     let names = [&case.names[..], &other.names].concat();
@@ -259,7 +274,7 @@ fn added(
             body.items.insert(at, item);
         }
     }
-    let after = answer(&body.sheet(), &names);
+    let after = tried.answer(&body.sheet(), &names);
     if after.number == 0 {
         tried.note("added items: no class less often", no_less(before, &after));
     }

@@ -6,7 +6,10 @@ mod coverage;
 mod draft;
 mod format;
 mod generate;
+mod items;
 mod laws;
+#[cfg(library)]
+mod library;
 mod random;
 mod reading;
 mod reading_test;
@@ -67,6 +70,8 @@ fn main() -> ExitCode {
         "cases" => options(rest).and_then(|options| cases_command(&options)),
         "select" => options(rest).and_then(|options| select_command(&options)),
         "record" => options(rest).and_then(|options| recorded_command(&options)),
+        #[cfg(library)]
+        "library" => library::command(rest),
         _ => {
             print!("{HELP}");
             Ok(command == "help")
@@ -201,13 +206,8 @@ fn print_answers(sheet: &[u8], names: &[u8], ours: &Answer) {
 // the other commands
 // ---------------------------------------------------------------------------
 
-/// True if no law failed.
 fn laws_command(options: &Options) -> bool {
-    let tried = laws::try_all(options.seed, options.cases.unwrap_or(LAW_CASES));
-    for (law, (count, failed)) in &tried.laws {
-        println!("{law}: tried {count}, failed {failed}");
-    }
-    tried.failed() == 0
+    laws::try_all(options.seed, options.cases.unwrap_or(LAW_CASES), &answer).print()
 }
 
 fn reading_test() -> bool {

@@ -26,7 +26,7 @@ impl Source {
     }
 }
 
-/// A case on which reading and oracle differ.
+/// A case on which two answers differ, and the second reading's.
 pub struct Difference {
     pub i: u64,
     pub case: Case,
@@ -43,10 +43,24 @@ pub struct Report {
 }
 
 impl Report {
-    fn add(&mut self, other: Report) {
+    pub fn add(&mut self, other: Report) {
         self.coverage.add(other.coverage);
         self.differences += other.differences;
         self.keep_first(other.first);
+    }
+
+    fn note(&mut self, i: u64, case: Case, answer: Answer, outcome: Outcome) {
+        let compared = !matches!(outcome, Outcome::NotAsked);
+        self.coverage.count(&case, &answer, compared);
+        if let Outcome::Different(message) = outcome {
+            self.differences += 1;
+            self.keep_first(Some(Difference {
+                i,
+                case,
+                answer,
+                message,
+            }));
+        }
     }
 
     fn keep_first(&mut self, other: Option<Difference>) {
@@ -57,13 +71,34 @@ impl Report {
     }
 }
 
-/// Compares cases 0 to `count`. The answers go through `tamper` first, which the
-/// self-test uses to spoil some; a true run hands in one that does nothing.
+/// Compares the second reading on cases 0 to `count`. The answers go through `tamper` first,
+/// which the self-test uses to spoil some; a true run hands in one that does nothing.
 pub fn run(source: Source, count: u64, tamper: fn(&mut Answer)) -> Report {
+    let judge = || {
+        move |_, case: &Case| {
+            let mut answer = answer(&case.sheet, &case.names);
+            tamper(&mut answer);
+            let outcome = against_oracles(&case.sheet, &case.names, &answer);
+            (answer, outcome)
+        }
+    };
+    run_by(|i| source.case(i), count, judge)
+}
+
+/// Compares cases 0 to `count`: each thread makes itself a judge, which gives the answer for
+/// a case and what comparing it came to.
+pub fn run_by<J>(
+    case: impl Fn(u64) -> Case + Sync,
+    count: u64,
+    judge: impl Fn() -> J + Sync,
+) -> Report
+where
+    J: FnMut(u64, &Case) -> (Answer, Outcome),
+{
     let next = AtomicU64::new(0);
     let mut report = Report::default();
     std::thread::scope(|scope| {
-        let work = || share(source, count, &next, tamper);
+        let work = || share(&case, count, &next, judge());
         let threads: Vec<_> = (0..THREADS).map(|_| scope.spawn(work)).collect();
         for thread in threads {
             report.add(
@@ -77,7 +112,12 @@ pub fn run(source: Source, count: u64, tamper: fn(&mut Answer)) -> Report {
 }
 
 /// One thread's share: chunk after chunk until none is left.
-fn share(source: Source, count: u64, next: &AtomicU64, tamper: fn(&mut Answer)) -> Report {
+fn share(
+    case: &impl Fn(u64) -> Case,
+    count: u64,
+    next: &AtomicU64,
+    mut judge: impl FnMut(u64, &Case) -> (Answer, Outcome),
+) -> Report {
     let mut report = Report::default();
     loop {
         let start = next.fetch_add(CHUNK, Ordering::Relaxed);
@@ -85,25 +125,9 @@ fn share(source: Source, count: u64, next: &AtomicU64, tamper: fn(&mut Answer)) 
             return report;
         }
         for i in start..(start + CHUNK).min(count) {
-            compare(source.case(i), i, &mut report, tamper);
+            let case = case(i);
+            let (answer, outcome) = judge(i, &case);
+            report.note(i, case, answer, outcome);
         }
-    }
-}
-
-fn compare(case: Case, i: u64, report: &mut Report, tamper: fn(&mut Answer)) {
-    let mut answer = answer(&case.sheet, &case.names);
-    tamper(&mut answer);
-    let outcome = against_oracles(&case.sheet, &case.names, &answer);
-    report
-        .coverage
-        .count(&case, &answer, !matches!(outcome, Outcome::NotAsked));
-    if let Outcome::Different(message) = outcome {
-        report.differences += 1;
-        report.keep_first(Some(Difference {
-            i,
-            case,
-            answer,
-            message,
-        }));
     }
 }
