@@ -66,16 +66,15 @@ fn compute(rules: &Path, cases: &str, out: &Path, spoil: bool) -> Result<bool> {
     let differing = differing(&log);
     differing.iter().take(20).for_each(|name| println!("differs: {name}"));
     let records: usize = cases.iter().map(|case| case.sheet.len() / 32).sum();
-    println!(
-        "{} cases, {} accepted, {records} records computed: {} differences",
-        cases.len(),
-        cases.iter().filter(|case| case.values[0] == 0).count(),
-        differing.len()
-    );
+    let accepted = cases.iter().filter(|case| case.values[0] == 0).count();
     let proved = is_proved(&log);
-    if !proved && differing.is_empty() {
+    let told = if proved || !differing.is_empty() {
+        format!("{} differences", differing.len())
+    } else {
         print!("{log}");
-    }
+        "no verdict".to_string()
+    };
+    println!("{} cases, {accepted} accepted, {records} records computed: {told}", cases.len());
     Ok(proved)
 }
 
