@@ -27,19 +27,16 @@ const USAGE: &str = "bench [--shape NAME] [--seeds N] [--quick] [--calls N]";
 /// The sizes at which growth is measured.
 const SIZES: [usize; 5] = [64, 128, 256, 512, FULL];
 
-const THOROUGH: Effort = Effort {
-    rounds: 300,
-    limit: Duration::from_millis(300),
-};
-const QUICK: Effort = Effort {
-    rounds: 40,
+/// What is measured of a sheet in one pass.
+const PASS: Effort = Effort {
+    rounds: 100,
     limit: Duration::from_millis(100),
 };
 
 struct Options {
     shape: Option<String>,
     seeds: u64,
-    effort: Effort,
+    passes: usize,
     /// No measuring: so many calls of the library on each shape, for a profiler.
     calls: Option<usize>,
 }
@@ -59,7 +56,7 @@ fn options(arguments: &[String]) -> Result<Options, String> {
     let mut options = Options {
         shape: None,
         seeds: 5,
-        effort: THOROUGH,
+        passes: 4,
         calls: None,
     };
     let mut rest = arguments.iter();
@@ -70,7 +67,7 @@ fn options(arguments: &[String]) -> Result<Options, String> {
             "--shape" => options.shape = Some(value()?.clone()),
             "--seeds" => options.seeds = number(value()?)?.max(1),
             "--calls" => options.calls = Some(number(value()?)? as usize),
-            "--quick" => (options.seeds, options.effort) = (2, QUICK),
+            "--quick" => (options.seeds, options.passes) = (2, 1),
             _ => return Err(USAGE.to_string()),
         }
     }
@@ -90,7 +87,7 @@ fn run(options: &Options) -> Result<(), String> {
     }
     println!(
         "Best of up to {} rounds, worst of {} seeds, microseconds. The list of {} bytes is not cleared between calls",
-        options.effort.rounds,
+        options.passes * PASS.rounds,
         options.seeds,
         library::LIST
     );
@@ -114,6 +111,7 @@ fn call(shape: &Shape, calls: usize) {
 }
 
 /// One shape at one size: the worst of all seeds.
+#[derive(Clone, Copy)]
 struct Worst {
     records: usize,
     violations: usize,
@@ -125,44 +123,73 @@ struct Worst {
     longest: f64,
 }
 
-fn worst(shape: &Shape, most: usize, options: &Options) -> Result<Worst, String> {
-    let mut worst: Option<Worst> = None;
-    for seed in 0..options.seeds {
-        let (sheet, names) = shape.sheet(most, seed);
-        let violations =
-            agreed(&sheet, &names).map_err(|why| format!("{}, seed {seed}: {why}", shape.name))?;
-        let times = measure(&sheet, &names, options.effort);
-        let one = Worst {
-            records: sheet.len() / RECORD,
-            violations,
-            times,
-            to_tree: times.library / times.tree,
-            to_whole: times.library / times.whole,
-            longest: times.library,
-        };
-        worst = Some(match worst {
-            None => one,
-            Some(before) => before.or(one),
-        });
-    }
-    worst.ok_or_else(|| USAGE.to_string())
-}
-
 impl Worst {
     fn or(self, other: Worst) -> Worst {
-        let (to_whole, longest) = (
-            self.to_whole.max(other.to_whole),
-            self.longest.max(other.longest),
-        );
         let worse = if other.to_tree > self.to_tree {
             other
         } else {
             self
         };
         Worst {
-            to_whole,
-            longest,
+            to_whole: self.to_whole.max(other.to_whole),
+            longest: self.longest.max(other.longest),
             ..worse
+        }
+    }
+}
+
+/// A shape at several sizes. The passes lie apart in time, so that a busy spell of the machine does not meet all rounds of a sheet.
+fn worst(shape: &Shape, sizes: &[usize], options: &Options) -> Result<Vec<Worst>, String> {
+    let mut sheets = Vec::new();
+    for size in sizes {
+        for seed in 0..options.seeds {
+            sheets.push(Sheet::new(shape, *size, seed)?);
+        }
+    }
+    for _ in 0..options.passes {
+        for sheet in &mut sheets {
+            sheet.measure();
+        }
+    }
+    let of_size = sheets.chunks(options.seeds as usize);
+    let worst = of_size.filter_map(|seeds| seeds.iter().map(Sheet::result).reduce(Worst::or));
+    Ok(worst.collect())
+}
+
+/// A sheet on which library and Rust agree, with the best times so far.
+struct Sheet {
+    sheet: Vec<u8>,
+    names: Vec<u8>,
+    violations: usize,
+    times: Times,
+}
+
+impl Sheet {
+    fn new(shape: &Shape, most: usize, seed: u64) -> Result<Sheet, String> {
+        let (sheet, names) = shape.sheet(most, seed);
+        let violations =
+            agreed(&sheet, &names).map_err(|why| format!("{}, seed {seed}: {why}", shape.name))?;
+        Ok(Sheet {
+            sheet,
+            names,
+            violations,
+            times: Times::NONE,
+        })
+    }
+
+    fn measure(&mut self) {
+        let times = measure(&self.sheet, &self.names, PASS);
+        self.times = self.times.best(times);
+    }
+
+    fn result(&self) -> Worst {
+        Worst {
+            records: self.sheet.len() / RECORD,
+            violations: self.violations,
+            times: self.times,
+            to_tree: self.times.library / self.times.tree,
+            to_whole: self.times.library / self.times.whole,
+            longest: self.times.library,
         }
     }
 }
@@ -171,7 +198,7 @@ fn ratios(shapes: &[&Shape], options: &Options) -> Result<(), String> {
     println!("| Shape | | Records | Violations | Library | Ready tree | Whole way | To the tree | To the whole way |");
     println!("|---|---|---:|---:|---:|---:|---:|---:|---:|");
     for shape in shapes {
-        let worst = worst(shape, shape.records, options)?;
+        let worst = worst(shape, &[shape.records], options)?[0];
         println!(
             "| {} | {} | {} | {} | {:.1} | {:.1} | {:.1} | {:.2} | {:.2} |",
             shape.name,
@@ -197,11 +224,11 @@ fn growth(shapes: &[&Shape], options: &Options) -> Result<(), String> {
     );
     println!("|---|{}", "---:|".repeat(SIZES.len() + 3));
     for shape in shapes {
-        let mut row = Vec::new();
-        for size in SIZES {
-            row.push(worst(shape, size, options)?);
-        }
-        let times: Vec<String> = row.iter().map(|one| format!("{:.1}", one.longest)).collect();
+        let row = worst(shape, &SIZES, options)?;
+        let times: Vec<String> = row
+            .iter()
+            .map(|one| format!("{:.1}", one.longest))
+            .collect();
         let (first, half, full) = (&row[0], &row[SIZES.len() - 2], &row[SIZES.len() - 1]);
         println!(
             "| {} | {} | {:.1} | {:.2} | {:.2} |",

@@ -29,6 +29,23 @@ pub struct Times {
     pub whole: f64,
 }
 
+impl Times {
+    /// Before anything is measured.
+    pub const NONE: Times = Times {
+        library: f64::INFINITY,
+        tree: f64::INFINITY,
+        whole: f64::INFINITY,
+    };
+
+    pub fn best(self, other: Times) -> Times {
+        Times {
+            library: self.library.min(other.library),
+            tree: self.tree.min(other.tree),
+            whole: self.whole.min(other.whole),
+        }
+    }
+}
+
 /// The number of violations of a sheet. `Err` says where library and Rust differ.
 pub fn agreed(sheet: &[u8], names: &[u8]) -> Result<usize, String> {
     let found = oracle_lean::run(sheet, names)?;
@@ -50,7 +67,9 @@ pub fn agreed(sheet: &[u8], names: &[u8]) -> Result<usize, String> {
     let mut list = vec![0xA5; LIST];
     let answer = library::check(sheet, names, &mut list);
     if answer != right {
-        return Err(format!("the library answers {answer:?}, the Rust {right:?}"));
+        return Err(format!(
+            "the library answers {answer:?}, the Rust {right:?}"
+        ));
     }
     match (0..LIST).find(|i| list[*i] != expected[*i]) {
         Some(i) => Err(format!("the lists differ at byte {i}")),

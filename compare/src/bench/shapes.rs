@@ -48,7 +48,12 @@ pub const SHAPES: [Shape; 16] = [
     shape("overlap", FULL, overlap, "511 names of 255 bytes"),
     shape("variants", FULL, variants, "1,022 variants of an enum"),
     shape("tombstones", FULL, tombstones, "510 and 256 fields"),
-    shape("declarations", FULL, declarations, "340, named by 340 fields"),
+    shape(
+        "declarations",
+        FULL,
+        declarations,
+        "340, named by 340 fields",
+    ),
     shape("chain", FULL, chain, "340 newtypes under 114 keys"),
     shape("union", FULL, union, "340 variants with a field"),
     shape("annotations", FULL, annotations, "faulty, of every kind"),
@@ -56,9 +61,19 @@ pub const SHAPES: [Shape; 16] = [
     shape("imports", FULL, imports, "1,000, and 11 fields"),
     shape("row", FULL, row, "300 annotations on a field"),
     shape("bits", FULL, bits, "1,000 bit names of a type"),
-    shape("optionals", FULL, optionals, "60 under each of 16 conditions"),
+    shape(
+        "optionals",
+        FULL,
+        optionals,
+        "60 under each of 16 conditions",
+    ),
     shape("context", FULL, context, "1,000 declarations, one field"),
-    shape("variant-fields", FULL, variant_fields, "16 in each of 31 variants"),
+    shape(
+        "variant-fields",
+        FULL,
+        variant_fields,
+        "16 in each of 31 variants",
+    ),
 ];
 
 struct Maker {
