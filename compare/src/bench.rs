@@ -35,7 +35,7 @@ const PASS: Effort = Effort {
 
 struct Options {
     shape: Option<String>,
-    seeds: u64,
+    seeds: usize,
     passes: usize,
     /// No measuring: so many calls of the library on each shape, for a profiler.
     calls: Option<usize>,
@@ -53,25 +53,25 @@ fn main() -> ExitCode {
 }
 
 fn options(arguments: &[String]) -> Result<Options, String> {
-    let mut options = Options {
-        shape: None,
-        seeds: 5,
-        passes: 4,
-        calls: None,
-    };
+    let (mut shape, mut seeds, mut calls, mut quick) = (None, None, None, false);
     let mut rest = arguments.iter();
     while let Some(argument) = rest.next() {
         let mut value = || rest.next().ok_or(USAGE);
-        let number = |text: &String| text.parse::<u64>().map_err(|_| USAGE.to_string());
+        let number = |text: &String| text.parse::<usize>().map_err(|_| USAGE);
         match argument.as_str() {
-            "--shape" => options.shape = Some(value()?.clone()),
-            "--seeds" => options.seeds = number(value()?)?.max(1),
-            "--calls" => options.calls = Some(number(value()?)? as usize),
-            "--quick" => (options.seeds, options.passes) = (2, 1),
+            "--shape" => shape = Some(value()?.clone()),
+            "--seeds" => seeds = Some(number(value()?)?.max(1)),
+            "--calls" => calls = Some(number(value()?)?),
+            "--quick" => quick = true,
             _ => return Err(USAGE.to_string()),
         }
     }
-    Ok(options)
+    Ok(Options {
+        shape,
+        seeds: seeds.unwrap_or(if quick { 2 } else { 5 }),
+        passes: if quick { 1 } else { 4 },
+        calls,
+    })
 }
 
 fn run(options: &Options) -> Result<(), String> {
@@ -143,7 +143,7 @@ fn worst(shape: &Shape, sizes: &[usize], options: &Options) -> Result<Vec<Worst>
     let mut sheets = Vec::new();
     for size in sizes {
         for seed in 0..options.seeds {
-            sheets.push(Sheet::new(shape, *size, seed)?);
+            sheets.push(Sheet::new(shape, *size, seed as u64)?);
         }
     }
     for _ in 0..options.passes {
@@ -151,7 +151,7 @@ fn worst(shape: &Shape, sizes: &[usize], options: &Options) -> Result<Vec<Worst>
             sheet.measure();
         }
     }
-    let of_size = sheets.chunks(options.seeds as usize);
+    let of_size = sheets.chunks(options.seeds);
     let worst = of_size.filter_map(|seeds| seeds.iter().map(Sheet::result).reduce(Worst::or));
     Ok(worst.collect())
 }

@@ -17,7 +17,7 @@ pub struct Effort {
 /// How long a part of a round lasts at least. Short, so that on a busy machine some rounds are not interrupted.
 const PART: Duration = Duration::from_micros(20);
 /// Rounds that are made whatever the limit.
-const LEAST_ROUNDS: usize = 20;
+const LEAST_ROUNDS: usize = 10;
 
 /// Times of one call in microseconds of the thread's clock, each the best of all rounds.
 #[derive(Clone, Copy)]
