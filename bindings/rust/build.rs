@@ -4,7 +4,7 @@ use std::env;
 use std::path::{Path, PathBuf};
 use std::process::exit;
 
-/// The variable that names another folder for the library.
+/// The variable that names another folder for the library; a relative one begins at this package.
 const FOLDER: &str = "VEXIL_CHECK_LIB_DIR";
 const LIBRARY: &str = "libvalidate.a";
 
@@ -14,7 +14,10 @@ fn folder() -> PathBuf {
         return PathBuf::from(given);
     }
     let package = env::var_os("CARGO_MANIFEST_DIR").expect("cargo names the package's folder");
-    Path::new(&package).join("../../target/staticlib")
+    let repository = Path::new(&package).ancestors().nth(2);
+    repository
+        .expect("the package stands two folders deep in the repository")
+        .join("target/staticlib")
 }
 
 fn main() {

@@ -7,6 +7,7 @@
 //! - [`check`] is the call itself, on byte slices. It allocates nothing.
 //! - [`Violations`] reads the list that a call has written; [`Report`] is a call with all of its list.
 //! - [`Context`] lays out sheets from the values of [`tree`], which have the compiler's shape.
+//! - [`text`] shows a sheet as text and makes one from text; the program `sheet` is made of it.
 //!
 //! ```
 //! use vexil_check::tree::*;
@@ -39,6 +40,7 @@ mod context;
 pub mod format;
 mod names;
 mod report;
+pub mod text;
 pub mod tree;
 mod violation;
 

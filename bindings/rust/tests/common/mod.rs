@@ -1,6 +1,8 @@
 //! Short ways to write declarations in tests.
 #![allow(dead_code)] // each test file uses some of them
 
+pub mod generate;
+
 use vexil_check::format::{Record, RECORD};
 use vexil_check::tree::*;
 use vexil_check::{Context, Sheet};
