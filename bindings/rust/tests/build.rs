@@ -494,3 +494,47 @@ fn a_build_error_says_what_and_where() {
         "the sheet cannot hold an ordinal of 4294967296, over 4294967295 (at 20, length 7)"
     );
 }
+
+#[test]
+fn arguments_of_every_value() {
+    let values = [
+        (AnnotationValue::Int(5), 5),
+        (AnnotationValue::Hex(6), 6),
+        (AnnotationValue::Str, 0),
+        (AnnotationValue::Bool(true), 1),
+        (AnnotationValue::Ident, 0),
+        (AnnotationValue::UpperIdent, 0),
+    ];
+    for (sub, (value, number)) in values.into_iter().enumerate() {
+        let annotation = annotation_with("x", None, value);
+        let sheet = alone(&one(u8_type(), vec![annotation], None));
+        let record = records(&sheet.records)[3];
+        let expected = (kind::ARGUMENT, sub as u8, number);
+        assert_eq!((record.kind, record.sub, record.value), expected);
+        assert_eq!(record.span, at(41));
+    }
+}
+
+#[test]
+fn the_low_end_of_a_range_stands_before_the_high_one() {
+    let low = || spanned(WhereOperand::Int(1));
+    let high = || spanned(WhereOperand::Int(9));
+    let range = WhereExpr::Range {
+        low: low(),
+        high: high(),
+        exclusive_high: false,
+    };
+    let len_range = WhereExpr::LenRange {
+        low: low(),
+        high: high(),
+        exclusive_high: true,
+    };
+    for condition in [range, len_range] {
+        let sheet = alone(&one(string(), vec![], Some(condition)));
+        let values: Vec<u64> = records(&sheet.records)[4..]
+            .iter()
+            .map(|record| record.value)
+            .collect();
+        assert_eq!(values, [1, 9]);
+    }
+}

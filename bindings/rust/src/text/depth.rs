@@ -54,7 +54,6 @@ impl Depth {
                 self.item = 1;
             }
             kind::VARIANT if self.in_union => self.item = 2,
-            kind::TOMBSTONE => self.item = 1,
             _ => {}
         }
         if record.kind != kind::ANNOTATION {
