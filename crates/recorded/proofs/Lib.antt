@@ -1,2 +1,4 @@
 pub mod Answers
-pub mod Errors
+pub mod Buffers
+pub mod Replayed
+pub mod Counts

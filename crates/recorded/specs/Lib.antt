@@ -1,2 +1,4 @@
 pub mod File
 pub mod Answer
+pub mod Buffer
+pub mod Replay

@@ -1,15 +1,19 @@
-// What can be told of a file of recorded cases before the check is run. The top of
+// The recorded cases: how their file is read, and whether the check gives a case's answer and list again. The top of
 // compare/src/cases_file.rs describes the file.
+mod buffer;
+mod numbers;
+mod replay;
+mod single;
+
 ghost use mathlib.Core.Path.{_≡_};
-ghost use Prim.Native.Nat.{_<_, _≤_};
+ghost use Prim.Native.Nat.{_<_};
 ghost use Rattle.recorded.specs.File.{numberOf, isMagic};
-ghost use Rattle.recorded.specs.Answer.{isAnswer, errorOf, errorsIn};
-
-// The bytes of a violation of the file.
-pub const VIOLATION: usize = 16;
-
-// The place of the severity among them.
-const SEVERITY: usize = 2;
+ghost use Rattle.recorded.specs.Answer.{isAnswer};
+pub use buffer::VIOLATION;
+pub use replay::BUFFERS;
+pub use replay::LIST;
+pub use replay::same_buffers;
+pub use single::is_single_field;
 
 // The first eight bytes of a file, as two numbers.
 const MAGIC: u32 = 0x6573_6163;
@@ -61,26 +65,4 @@ pub fn is_answer(number: u32, index: u32, total: u32, errors: u32) -> bool
         return false;
     }
     errors == 0
-}
-
-// 1 for the severity of an error, 0 for that of a warning.
-fn error(severity: u8) -> usize
-    ensures { λ r. ⌜ (r ≡ errorOf severity) × (r ≤ 1) ⌝ }
-{
-    if severity == 0 { 1 } else { 0 }
-}
-
-// How many of a list's violations are errors.
-pub fn errors_in(list: &[u8]) -> usize
-    ensures { λ r. ⌜ r ≡ errorsIn (now (list .entry)) ⌝ }
-{
-    let whole = list.len() / VIOLATION;
-    let mut errors: usize = 0;
-    let mut i = 0;
-    while i < whole {
-        let at = VIOLATION * i + SEVERITY;
-        errors += error(list[at]);
-        i += 1;
-    }
-    errors
 }

@@ -2,6 +2,7 @@
 //
 // No contract can say what a read brings; what is made of the bytes stands in `recorded`.
 use recorded::VIOLATION;
+use rules::AnswerValues;
 
 // What is found where a number is due.
 pub enum Number {
@@ -12,17 +13,9 @@ pub enum Number {
     Fault,
 }
 
-// The four numbers of an answer.
-pub struct Answer {
-    pub number: u32,
-    pub index: u32,
-    pub total: u32,
-    pub errors: u32,
-}
-
 // What is found where an answer is due.
 pub enum Told {
-    Answer(Answer),
+    Answer(AnswerValues),
     Fault,
 }
 
@@ -31,7 +24,7 @@ pub struct Case {
     pub sheet: usize,
     pub names: usize,
     pub list: usize,
-    pub answer: Answer,
+    pub answer: AnswerValues,
 }
 
 // What is found where a case may begin.
@@ -89,7 +82,7 @@ fn next_answer(fd: i32) -> Told {
         return Told::Fault;
     };
     if recorded::is_answer(number, index, total, errors) {
-        Told::Answer(Answer {
+        Told::Answer(AnswerValues {
             number,
             index,
             total,

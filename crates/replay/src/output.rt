@@ -1,6 +1,7 @@
 // The lines that are written.
 use crate::tally::Tally;
 use libc::STDOUT_FILENO;
+use rules::AnswerValues;
 
 // Writes words alone.
 fn text(words: &[u8]) {
@@ -25,14 +26,28 @@ fn count(words: &[u8], n: u64) {
     text(b"\n");
 }
 
-// Names a case by its index in the file, from 0.
-pub fn differing(index: u64, told: u64, found: u64) {
+// Writes a word and a number.
+fn part(word: &[u8], n: u32) {
+    text(word);
+    number(n as u64);
+}
+
+// Writes the numbers of an answer.
+fn answer(values: AnswerValues) {
+    part(b" number ", values.number);
+    part(b" index ", values.index);
+    part(b" total ", values.total);
+    part(b" errors ", values.errors);
+}
+
+// Names a case by its index in the file, from 0, with the recorded answer and the check's.
+pub fn differing(index: u64, told: AnswerValues, found: AnswerValues) {
     text(b"case ");
     number(index);
-    text(b" tells errors ");
-    number(told);
-    text(b", its list has ");
-    number(found);
+    text(b" differs: recorded");
+    answer(told);
+    text(b", checked");
+    answer(found);
     text(b"\n");
 }
 
@@ -53,9 +68,11 @@ pub fn summary(t: Tally) {
     count(b"cases ", t.cases);
     count(b"accepted ", numbers[0]);
     refusals(&numbers);
+    count(b"messages of one field ", t.single);
     count(b"violations ", t.violations);
-    count(b"errors ", t.errors);
-    count(b"differing ", t.differing);
+    count(b"buffers compared ", t.buffers);
+    count(b"buffers as recorded ", t.same);
+    count(b"cases differing ", t.differing);
     if t.whole {
         line(b"the file is whole");
     } else {

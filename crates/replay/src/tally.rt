@@ -1,14 +1,20 @@
-// What the cases read so far come to.
-use crate::input::Case;
+// What the cases replayed so far come to.
+use recorded::BUFFERS;
+use rules::AnswerValues;
 use std::num::wrapping_add_u64;
 
 pub struct Tally {
     pub cases: u64,
     // How many have each number: 0 accepted, 1 to 9 refused.
     pub numbers: [u64; 10],
+    // How many of the accepted ones are messages with one field.
+    pub single: u64,
     pub violations: u64,
-    pub errors: u64,
-    // How many tell other errors than their list has.
+    // How many buffers the check was called with.
+    pub buffers: u64,
+    // How many of them, and of the answers with them, are as recorded.
+    pub same: u64,
+    // How many cases have one that is not.
     pub differing: u64,
     // Whether the file was as it must be.
     pub whole: bool,
@@ -20,8 +26,10 @@ impl Tally {
         Tally {
             cases: 0,
             numbers: [0; 10],
+            single: 0,
             violations: 0,
-            errors: 0,
+            buffers: 0,
+            same: 0,
             differing: 0,
             whole: true,
         }
@@ -33,17 +41,19 @@ impl Tally {
         self
     }
 
-    // With a case more, whose list has so many errors; `same` if it tells as many.
-    pub fn with(mut self, c: Case, errors: u64, same: bool) -> Self {
-        let number = c.answer.number as usize;
+    // With a case more, of which so many buffers are as recorded; `single` if its sheet is a message with one field.
+    pub fn with(mut self, told: AnswerValues, same: usize, single: bool) -> Self {
+        let number = told.number as usize;
         if number >= 10 {
             return self.stopped();
         }
         self.numbers[number] = wrapping_add_u64(self.numbers[number], 1);
         self.cases = wrapping_add_u64(self.cases, 1);
-        self.violations = wrapping_add_u64(self.violations, c.answer.total as u64);
-        self.errors = wrapping_add_u64(self.errors, errors);
-        self.differing = wrapping_add_u64(self.differing, !same as u64);
+        self.single = wrapping_add_u64(self.single, (single & (number == 0)) as u64);
+        self.violations = wrapping_add_u64(self.violations, told.total as u64);
+        self.buffers = wrapping_add_u64(self.buffers, BUFFERS as u64);
+        self.same = wrapping_add_u64(self.same, same as u64);
+        self.differing = wrapping_add_u64(self.differing, (same != BUFFERS) as u64);
         self
     }
 }
