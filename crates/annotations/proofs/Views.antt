@@ -1,6 +1,6 @@
 -- Records by their index: a range of records is its first record and the range after it, and the annotations and the arguments in it go
 -- by what that record is.
-use Prim.Native.Nat.{ℕ, suc, _+_, _-_, _≤_, _<_}
+use Prim.Native.Nat.{ℕ, suc, _+_, _≤_, _<_}
 use mathlib.Core.Path.{_≡_, _∙_, sym}
 use mathlib.Core.Bool.{true, false}
 use mathlib.Core.List.{List, [], _∷_}
@@ -12,21 +12,9 @@ use Rattle.rules.specs.Words.{front, items}
 use Rattle.rules.specs.Kind
 use Rattle.rules.specs.Record.{is, kindIn, recordBytes}
 use Rattle.rules.specs.Annotations.{annotationsOf}
-use Rattle.names.specs.View.{viewAt, viewFrom, viewOf}
+use Rattle.names.specs.View.{viewAt, viewOf}
+use Rattle.types.proofs.Views.{view-cons, view-none}
 use Rattle.annotations.specs.AnnotationAt.{argumentsFrom, annotationAt}
-
-module _ (sheet : List ℕ) (i e : ℕ) where
-  pub view-next : i < e → viewOf sheet i e ≡ viewAt sheet i ∷ viewOf sheet (i + 1) e
-  unfolding viewFrom
-  view-next h =
-      let more : e - i ≡ suc (e - (i + 1)) = omega arith in
-      rw (more, add-one)
-
-  pub view-none : e ≤ i → viewOf sheet i e ≡ []
-  unfolding viewFrom
-  view-none h =
-      let none : e - i ≡ 0 = omega arith in
-      rw none
 
 -- the records after record i, if it stands before the end
 pub after-within : (i e : ℕ) → (sheet : List ℕ) → viewOf sheet (i + 1) e ≡ viewOf sheet (suc i) e
@@ -53,13 +41,13 @@ module _ (sheet : List ℕ) (i e : ℕ) where
       i < e → is Kind.Annotation (viewAt sheet i) ≡ true →
       annotationsOf (viewOf sheet i e) ≡ annotationAt sheet i e ∷ annotationsOf (viewOf sheet (i + 1) e)
   unfolding items annotationAt argumentsFrom
-  annotations-next h t = rw (view-next sheet i e h, t, items, add-one)
+  annotations-next h t = rw (view-cons sheet i e h, t, items, add-one)
 
   pub annotations-other :
       i < e → is Kind.Annotation (viewAt sheet i) ≡ false →
       annotationsOf (viewOf sheet i e) ≡ annotationsOf (viewOf sheet (i + 1) e)
   unfolding items
-  annotations-other h t = rw (view-next sheet i e h, t, items)
+  annotations-other h t = rw (view-cons sheet i e h, t, items)
 
   pub annotations-none : e ≤ i → annotationsOf (viewOf sheet i e) ≡ []
   unfolding items
@@ -70,11 +58,11 @@ module _ (sheet : List ℕ) (i e : ℕ) where
       i < e → is Kind.Annotation (viewAt sheet i) ≡ false →
       argumentsFrom sheet i e ≡ viewAt sheet i ∷ argumentsFrom sheet (i + 1) e
   unfolding front argumentsFrom
-  arguments-next h t = rw (view-next sheet i e h, t, front)
+  arguments-next h t = rw (view-cons sheet i e h, t, front)
 
   pub arguments-stop : i < e → is Kind.Annotation (viewAt sheet i) ≡ true → argumentsFrom sheet i e ≡ []
   unfolding front argumentsFrom
-  arguments-stop h t = rw (view-next sheet i e h, t, front)
+  arguments-stop h t = rw (view-cons sheet i e h, t, front)
 
   pub arguments-none : e ≤ i → argumentsFrom sheet i e ≡ []
   unfolding front argumentsFrom

@@ -40,12 +40,11 @@ same-starts-spec =
     (λ c. omega arith)
     (λ c. let called = c .before .before .before in
     let measured = called .before .before in
-    let turn = measured .before in
-    let start = turn .before .loop in (
+    let start = measured .before .before .loop in (
       omega arith,
       omega arith,
       search needs,
-      buffer-next _ _ _ _ _ _ (start .inv .3) (start .list) _ _ _ (turn .loop-test .taken) (measured .buffer-len .ensures .0) (omega arith) (called .is-same .ensures) (c .one-if .ensures .0),
+      buffer-next _ _ _ _ _ _ (start .inv .3) (start .list) _ _ _ (omega arith) (measured .buffer-len .ensures .0) (omega arith) (called .is-same .ensures) (c .one-if .ensures .0),
     ))
     (λ c. search needs)
     (λ c. search laws))
