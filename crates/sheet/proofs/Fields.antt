@@ -33,6 +33,10 @@ module _ (l : List ℕ) (k : ℕ) (hk : k ≡ kindIn l) where
       let some : n ≡ Kind.subCount (kindIn l) = cc in
       rw (lt-ltb 0 (Kind.subCount (kindIn l)) (omega arith)) hr
 
+  -- of another kind than an operand any sub says the same
+  pub other-named : (r : Bool) → (k ≡ 60 → ⊥) → r ≡ Kind.hasName k 0 → r ≡ isNamedIn l
+  other-named r other h = h ∙ rw (← hk, ne-eqb k 60 other)
+
   pub ordinal-span-read : (has : Bool) (a b : ℕ) (r : Span) → has ≡ Kind.hasOrdinalSpan k → has ≡ true → a ≡ numberAt 16 4 l → b ≡ numberAt 20 4 l → r ≡ record { offset = a; len = b } → r ≡ ordinalSpanIn l
   unfolding ordinalSpanIn
   ordinal-span-read has a b r h t ha hb hr =

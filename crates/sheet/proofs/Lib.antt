@@ -3,4 +3,4 @@ pub mod Part
 pub mod Below
 pub mod Matched
 pub mod Fields
-pub mod Marks
+pub mod Windows

@@ -1,1 +1,1 @@
-pub mod Mark
+pub mod Window

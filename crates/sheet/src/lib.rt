@@ -5,7 +5,9 @@ pub mod kinds;
 mod names;
 mod record;
 
+pub use field_name::continues_names;
 pub use field_name::is_valid_field_name;
+pub use field_name::starts_name;
 pub use kinds::has_ordinal;
 pub use kinds::is_condition;
 pub use kinds::is_known;

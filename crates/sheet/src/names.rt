@@ -4,15 +4,21 @@ ghost use Prim.Native.Nat.{_<_};
 ghost use Rattle.rules.specs.Record.{recordBytes, isNamedIn, nameLength, nameOffset, fitsIn, nameIn};
 use crate::bytes::byte_at;
 use crate::bytes::word_at;
+use crate::kinds::OPERAND;
 use crate::kinds::is_named;
 use crate::record::kind;
 use crate::record::sub;
 
-// Whether the record has a name.
+// Whether the record has a name. The sub is read of an operand alone, as no other kind's decides.
 pub fn has_name(sheet: &[u8], i: usize) -> bool
     ensures { λ r. ⌜ r ≡ isNamedIn (recordBytes (now (sheet .entry)) i) ⌝ }
 {
-    is_named(kind(sheet, i), sub(sheet, i))
+    let kind = kind(sheet, i);
+    if kind == OPERAND {
+        is_named(kind, sub(sheet, i))
+    } else {
+        is_named(kind, 0)
+    }
 }
 
 // Where the name part starts in the names text.

@@ -1,11 +1,19 @@
--- `sheet::field_name::is_valid_field_name` meets its contract: the constant table passes the test of all its entries, so it has the marks.
+-- `sheet::field_name::is_valid_field_name` meets its contract: a first byte that may start a name, and every byte may go on.
 use borrow.Author.Needs.{needs}
-use Rattle.sheet.specs.Mark.{nameMark}
-use Rattle.sheet.proofs.Below.{passesBelow}
-use Rattle.sheet.proofs.Marks.{marksBytes, has-marks}
+use borrow.Author.Tests.{not-true, not-false}
+use Rattle.sheet.proofs.Windows.{empty-name, bad-start, good-start}
 use Rattle.sheet.proofs.field_name.is_valid_field_name.Statement.{statement}
 use Rattle.sheet.proofs.field_name.is_valid_field_name.Tie as tie
 
+ruleset laws = (needs, not-true, not-false, empty-name, bad-start, good-start)
+
 pub is-valid-field-name-spec : {M : Type 1} → statement M
-unfolding marksBytes passesBelow nameMark
-is-valid-field-name-spec = tie.close (tie.spec (λ c κs. has-marks _ tt) (λ c. search needs))
+is-valid-field-name-spec =
+    tie.close
+    (tie.spec
+    (λ c. search laws)
+    (λ c. search laws)
+    (λ c κs. search laws)
+    (λ c. search laws)
+    (λ c κs. search laws)
+    (λ c. search laws))
