@@ -24,7 +24,7 @@ module _ {A : Type 0} (f : ℕ → A → ℕ) where
       let next : suc i + k ≡ i + suc k = omega arith in
       numbered-at (suc i) k xs d (omega arith) ∙ rw next
 
-zeros-at : (m k : ℕ) → _≡_ {A = ℕ} (getD (replicate m 0) k 0) 0
+pub zeros-at : (m k : ℕ) → _≡_ {A = ℕ} (getD (replicate m 0) k 0) 0
 zeros-at zero k = refl
 zeros-at (suc m) zero = refl
 zeros-at (suc m) (suc k) = zeros-at m k

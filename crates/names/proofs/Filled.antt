@@ -7,7 +7,7 @@ use native.Mathlib.Nat.{add-zero}
 use native.Mathlib.Numerals.{add-one}
 use native.Mathlib.Omega.{arith}
 use lib.ListN.{length, getD, take, set, length-set}
-use lib.Seq.{take-suc, take-suc-set, take-all}
+use lib.Seq.{take-suc, take-suc-set}
 
 -- the table t after i stores, of which old is the table before the first
 pub record Filled (p : ℕ) (part old t : List ℕ) (i : ℕ) : Type 0 where
@@ -29,12 +29,6 @@ module _ (p : ℕ) (part old t : List ℕ) (i : ℕ) (l : length part ≡ 1024) 
         size = length-set t (p + i) v ∙ before .size;
         front = rw (next, add-one, take-suc-set t (p + i) v here, before .front, take-suc part i 0 more, e, append-assoc);
       }
-
-  pub filled-all : 1024 ≤ i → take (p + 1024) t ≡ take p old ++ part
-  filled-all h =
-      let last : i ≡ 1024 = omega arith in
-      let all : take i part ≡ part = take-all i part (omega arith) in
-      rw (← last, before .front, all)
 
 -- the last two numbers of a list
 pub last-two : (p : ℕ) (t : List ℕ) (a b : ℕ) → length t ≡ p + 2 → set (set t p a) (p + 1) b ≡ take p t ++ (a ∷ b ∷ [])

@@ -12,6 +12,10 @@ use Rattle.rules.specs.Record.{Rec, records}
 use Rattle.rules.proofs.Records.{length-records, records-at}
 use Rattle.names.specs.Parts.{known, knownCount, recordOf}
 
+pub known-few : (sheet : List ℕ) → knownCount sheet ≤ 1024
+unfolding knownCount
+known-few sheet = min-le-left 1024 (length sheet / 32)
+
 module _ (sheet names : List ℕ) where
   pub length-known : length (known sheet names) ≡ knownCount sheet
   unfolding known knownCount
@@ -20,7 +24,7 @@ module _ (sheet names : List ℕ) where
   pub known-at : (j : ℕ) (d : Rec (List ℕ) Span) → j < knownCount sheet → getD (known sheet names) j d ≡ recordOf sheet names j
   unfolding known knownCount recordOf
   known-at j d h =
-      let few : min 1024 (length sheet / 32) ≤ 1024 = min-le-left 1024 (length sheet / 32) in
+      let few : min 1024 (length sheet / 32) ≤ 1024 = known-few sheet in
       let whole : min 1024 (length sheet / 32) ≤ length sheet / 32 = min-le-right 1024 (length sheet / 32) in
       getD-take 1024 (records sheet names) j d (omega arith) ∙ records-at sheet names j d (omega arith)
 

@@ -4,7 +4,8 @@ pub mod Places
 pub mod Found
 pub mod Columns
 pub mod Filled
-pub mod Codes
+pub mod Cleared
+pub mod WordCodes
 pub mod Numbers
 pub mod Targets
 pub mod Table
@@ -13,4 +14,11 @@ pub mod CodeEntries
 pub mod FirstPlaces
 pub mod ColumnEntries
 pub mod Lookups
+pub mod SameIds
+pub mod Firsts
+pub mod Weighed
+pub mod Leads
+pub mod Noting
+pub mod Gathered
+pub mod Ended
 pub mod Renamed

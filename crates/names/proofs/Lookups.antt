@@ -79,7 +79,7 @@ module _ {P : Type 0} where
 
   module _ (rs : List (Rec (List ℕ) P)) (d : Rec (List ℕ) P) where
     -- the id of a named record is the index of a record with its name
-    id-place : (i : ℕ) → i < length rs → isNamed (getD rs i d) ≡ true → placeOf (sameName (getD rs i d)) rs ≡ suc (idIn rs i (getD rs i d))
+    pub id-place : (i : ℕ) → i < length rs → isNamed (getD rs i d) ≡ true → placeOf (sameName (getD rs i d)) rs ≡ suc (idIn rs i (getD rs i d))
     unfolding idIn sameName
     id-place i l h = go (placeOf (sameName (getD rs i d)) rs) refl
       where

@@ -5,7 +5,7 @@ use mathlib.Core.Bool.{Bool, true, false}
 use mathlib.Core.List.{List, [], _∷_}
 use native.Mathlib.Omega.{arith}
 use lib.ListN.{length, drop, length-append}
-use Rattle.rules.specs.Words.{numberIf, onlyIf, anyOf, select}
+use Rattle.rules.specs.Words.{numberIf, onlyIf, select}
 use Rattle.names.specs.NameTable.{placeOf}
 
 -- a place j elements further on; none stays none
@@ -36,32 +36,6 @@ module _ {A : Type 0} (p : A → Bool) (xs : List A) where
   pub place-start : placeOf p xs ≡ later 0 (placeOf p xs)
   place-start = later-none (placeOf p xs)
 
-  module _ (j : ℕ) (before : placeOf p xs ≡ later j (placeOf p (drop j xs))) where
-    pub place-here : (x : A) (rest : List A) → drop j xs ≡ x ∷ rest → p x ≡ true → j + 1 ≡ placeOf p xs
-    unfolding placeOf later
-    place-here x rest e h = rw (before, e, place-first p x rest h)
-
-    pub place-next : (x : A) (rest : List A) → drop j xs ≡ x ∷ rest → p x ≡ false → placeOf p xs ≡ later (j + 1) (placeOf p rest)
-    unfolding placeOf
-    place-next x rest e h = rw (before, e, place-skip p x rest h) (later-one j (placeOf p rest))
-
-    pub place-none : drop j xs ≡ [] → 0 ≡ placeOf p xs
-    unfolding placeOf later
-    place-none e = rw (before, e)
-
-  module _ (j : ℕ) (before : anyOf p xs ≡ anyOf p (drop j xs)) where
-    pub any-here : (x : A) (rest : List A) → drop j xs ≡ x ∷ rest → p x ≡ true → true ≡ anyOf p xs
-    unfolding anyOf
-    any-here x rest e h = rw (before, e, h)
-
-    pub any-next : (x : A) (rest : List A) → drop j xs ≡ x ∷ rest → p x ≡ false → anyOf p xs ≡ anyOf p rest
-    unfolding anyOf
-    any-next x rest e h = rw (before, e, h)
-
-    pub any-none : drop j xs ≡ [] → false ≡ anyOf p xs
-    unfolding anyOf
-    any-none e = rw (before, e)
-
   module _ (j n : ℕ) (before : length (select p xs) ≡ n + length (select p (drop j xs))) where
     pub count-next : (x : A) (rest : List A) → drop j xs ≡ x ∷ rest → length (select p xs) ≡ n + numberIf (p x) 1 + length (select p rest)
     unfolding select
@@ -74,3 +48,12 @@ module _ {A : Type 0} (p : A → Bool) (xs : List A) where
     pub count-none : drop j xs ≡ [] → n ≡ length (select p xs)
     unfolding select
     count-none e = rw (before, e) (omega arith)
+
+-- the same walk from the end: what was met from place j + 1 on, unless element j is met
+module _ {A : Type 0} (p : A → Bool) (xs : List A) (j : ℕ) (x : A) (rest : List A) (e : drop j xs ≡ x ∷ rest) where
+  pub later-here : p x ≡ true → later j (placeOf p (drop j xs)) ≡ j + 1
+  unfolding later
+  later-here h = rw (e, place-first p x rest h)
+
+  pub later-next : p x ≡ false → later j (placeOf p (drop j xs)) ≡ later (j + 1) (placeOf p rest)
+  later-next h = rw (e, place-skip p x rest h) (later-one j (placeOf p rest))

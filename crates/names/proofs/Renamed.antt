@@ -27,6 +27,7 @@ use Rattle.rules.proofs.AcceptedSheet.{accepted-length, accepted-whole, accepte
 use Rattle.rules.proofs.Renamed.{renamed, mapOption, Holds, renamedDeclared, WellNamed, Agree, endless-renamed}
 use Rattle.rules.proofs.RenamedBodies.{violations-renamed}
 use Rattle.names.specs.NameTable.{placeOf, isNamed, idIn, targetAt, targetIn, codeOf, nameTable, tableOf}
+use Rattle.names.specs.Parts.{targetOf}
 use Rattle.names.specs.View.{viewAt, viewFrom, viewOf, entryOf, idPart, declarationPart, importPart, targetPart, codePart, declaredBy, contextBy}
 use Rattle.names.proofs.CodeEntries.{code-word, code-blank, code-valid}
 use Rattle.names.proofs.FirstPlaces.{place-passes}
@@ -110,10 +111,6 @@ declared-well sheet zero target = tt
 declared-well sheet (suc d) zero = tt
 declared-well sheet (suc d) (suc t) = λ h. h
 
--- the place of the type of the declaration at a place
-abbrev targetFrom : List (Rec (List ℕ) Span) → ℕ → ℕ
-targetFrom rs place = elim place [ zero ↦ 0 | suc n ↦ targetAt (suc n) (drop n rs) ]
-
 -- a sheet of whole records that the table has room for, with names that fit
 module _ (sheet names : List ℕ) (room : length sheet ≤ 32768) (whole : length sheet % 32 ≡ 0)
     (fits : Every (λ r. r .fits ≡ true) (records sheet names)) where
@@ -176,11 +173,11 @@ module _ (sheet names : List ℕ) (room : length sheet ≤ 32768) (whole : lengt
     declaration-entry =
         entry declarationPart (omega arith) ∙ declaration-place rs (fits) (recordAt i) named-at
 
-    target-entry : entryOf targetPart (tableOf rs) i ≡ targetFrom rs (placeOf (bears Kind.Declaration (nameAt sheet names i)) rs)
+    target-entry : entryOf targetPart (tableOf rs) i ≡ targetOf rs (placeOf (bears Kind.Declaration (nameAt sheet names i)) rs)
     unfolding targetIn decode
     target-entry =
         entry targetPart (omega arith)
-        ∙ ap (targetFrom rs) (declaration-place rs (fits) (recordAt i) named-at)
+        ∙ ap (targetOf rs) (declaration-place rs (fits) (recordAt i) named-at)
 
   same-entry :
       (a b : ℕ) → HasName sheet a → HasName sheet b →
@@ -240,7 +237,7 @@ module _ (sheet names : List ℕ) (room : length sheet ≤ 32768) (whole : lengt
           (place : ℕ) →
           placeOf (bears Kind.Declaration (nameAt sheet names m)) rs ≡ place →
           _≡_ {A = Option (Declared (List ℕ) Span)} (elim place [ zero ↦ none | suc k ↦ declaredFirst (drop k rs) ])
-          (mapOption (renamedDeclared (nameAt sheet names)) (declaredAt sheet place (targetFrom rs place)))
+          (mapOption (renamedDeclared (nameAt sheet names)) (declaredAt sheet place (targetOf rs place)))
       go zero e = refl
       go (suc k) e =
           let l = place-passes (bears Kind.Declaration (nameAt sheet names m)) nobody rs k e .0 in

@@ -1,21 +1,36 @@
--- Two names compared byte by byte: as long as the bytes agree, the names are the same just if what follows is.
+-- Two names have the same bytes if they are of one length and the window of all their indices passes. Compared byte by byte, they are the
+-- same just if what follows is, as long as the bytes agree.
 use Prim.Native.Nat.{ℕ, zero, suc, _+_, _≤_}
 use mathlib.Core.Path.{_≡_, refl, _∙_, ap}
-use mathlib.Core.Bool.{true, false, and-false}
+use mathlib.Core.Bool.{Bool, true, false, and-false}
 use mathlib.Core.List.{List, [], _∷_}
 use native.Mathlib.Omega.{arith}
 use lib.ListN.{length, getD, drop, drop-of-length-le}
 use lib.Seq.{drop-nil}
 use borrow.Author.Tests.{eq-eqb, ne-eqb}
 use Rattle.rules.specs.Words.{sameBytes}
+use Rattle.sheet.specs.Window.{passes}
+use Rattle.sheet.proofs.Windows.{behind-first}
+use Rattle.names.specs.Same.{sameAt}
 
--- names of different lengths differ
 pub lengths-differ : (a b : List ℕ) → (length a ≡ length b → ⊥) → false ≡ sameBytes a b
 unfolding sameBytes
 lengths-differ [] [] h = absurd (h refl)
 lengths-differ [] (y ∷ b) h = refl
 lengths-differ (x ∷ a) [] h = refl
 lengths-differ (x ∷ a) (y ∷ b) h = rw (← lengths-differ a b (λ e. h (ap suc e)), and-false)
+
+windows-same : (a b : List ℕ) → length a ≡ length b → passes (sameAt a b) 0 (length a) ≡ sameBytes a b
+unfolding passes sameAt sameBytes
+windows-same [] [] l = refl
+windows-same [] (y ∷ b) l = absurd (omega arith)
+windows-same (x ∷ a) [] l = absurd (omega arith)
+windows-same (x ∷ a) (y ∷ b) l =
+    let rest : length a ≡ length b = omega arith in
+    rw (behind-first (sameAt (x ∷ a) (y ∷ b)) 0 (length a), windows-same a b rest)
+
+pub all-same : (a b : List ℕ) (all : Bool) → length a ≡ length b → all ≡ passes (sameAt a b) 0 (length a) → all ≡ sameBytes a b
+all-same a b all l e = e ∙ windows-same a b l
 
 -- names with different bytes at a place differ
 differ-at : (a b : List ℕ) (i : ℕ) → (getD a i 0 ≡ getD b i 0 → ⊥) → false ≡ sameBytes a b

@@ -2,7 +2,7 @@
 -- parts of 1024 numbers, one number for each record, 0 past the last: the record's id; the place of the first declaration of its name;
 -- whether the name is imported; the place of the first record of the type that the name is declared with; and the name's code. Behind them
 -- stand whether there is a wildcard, and how many declarations there are. A place is a record's index and one more; 0 is none.
-use Prim.Native.Nat.{ℕ, zero, suc, _+_, _*_}
+use Prim.Native.Nat.{ℕ, zero, suc, _+_}
 use mathlib.Core.Bool.{Bool, true, false, _&&_}
 use mathlib.Core.List.{List, [], _∷_, _++_}
 use lib.ListN.{length, take, drop, replicate}
@@ -17,9 +17,6 @@ use Rattle.rules.specs.Context.{words, wordFrom, validFieldName, isBlank}
 -- the most records of a sheet
 abbrev pub maxRecords : ℕ
 maxRecords = 1024
-
-abbrev pub tableSize : ℕ
-tableSize = 5 * maxRecords + 2
 
 module _ {A : Type 0} where
   -- the place of the first element that passes the test, counted from 1; 0 where there is none

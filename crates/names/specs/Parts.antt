@@ -1,13 +1,12 @@
 -- The parts of the table of a sheet and a names text, each by its name.
-use Prim.Native.Nat.{ℕ, _/_, min}
-use mathlib.Core.Bool.{Bool, _&&_}
+use Prim.Native.Nat.{ℕ, zero, suc, _/_, min}
 use mathlib.Core.List.{List, [], _∷_}
-use lib.ListN.{length, take}
+use lib.ListN.{length, take, drop}
 use Rattle.rules.specs.declared.span.Span.{Span}
 use Rattle.rules.specs.Words.{numberIf, anyOf, select}
 use Rattle.rules.specs.Kind
 use Rattle.rules.specs.Record.{Rec, decode, is, recordBytes, records}
-use Rattle.names.specs.NameTable.{maxRecords, column, isNamed, sameName, idIn, declarationIn, importIn, targetIn, codeOf}
+use Rattle.names.specs.NameTable.{maxRecords, column, isNamed, idIn, declarationIn, importIn, targetAt, targetIn, codeOf}
 
 -- the records that the table is about: the first 1024
 unfoldable pub known : List ℕ → List ℕ → List (Rec (List ℕ) Span)
@@ -22,13 +21,9 @@ unfoldable pub recordOf : List ℕ → List ℕ → ℕ → Rec (List ℕ) Span
 recordOf sheet names i = decode names (recordBytes sheet i)
 
 module _ {P : Type 0} where
-  -- the second record declares the name of the first
-  unfoldable pub declares : Rec (List ℕ) P → Rec (List ℕ) P → Bool
-  declares r q = is Kind.Declaration q && sameName r q
-
-  -- the second record imports the name of the first
-  unfoldable pub imports : Rec (List ℕ) P → Rec (List ℕ) P → Bool
-  imports r q = is Kind.ImportedName q && sameName r q
+  -- the place of the type of the declaration at that place
+  abbrev pub targetOf : List (Rec (List ℕ) P) → ℕ → ℕ
+  targetOf rs place = elim place [ zero ↦ 0 | suc n ↦ targetAt (suc n) (drop n rs) ]
 
 -- the five parts
 unfoldable pub ids : List ℕ → List ℕ → List ℕ

@@ -1,14 +1,14 @@
 -- How the rules read a sheet through the table of names: a record's name is its index, and what is asked of a name is looked up in the
 -- table at that index. It holds for every content of the table.
-use Prim.Native.Nat.{ℕ, zero, suc, _+_, _-_, _*_, _/_}
-use mathlib.Core.Bool.{Bool, true, false, not, _||_}
+use Prim.Native.Nat.{ℕ, zero, suc, _+_, _-_, _*_}
+use mathlib.Core.Bool.{true, not, _||_}
 use mathlib.Core.List.{List, [], _∷_}
 use mathlib.Core.Option.{Option, some, none}
-use lib.ListN.{length, getD, take, drop}
+use lib.ListN.{getD}
 use lib.Dec.{eqb, ltb}
 use Rattle.rules.specs.declared.span.Span.{Span}
 use Rattle.rules.specs.Words.{within, numberIf}
-use Rattle.rules.specs.Record.{Rec, recordSize, recordBytes, kindIn, subIn, cleanIn, spanIn, ordinalSpanIn, valueIn}
+use Rattle.rules.specs.Record.{Rec, recordBytes, kindIn, subIn, cleanIn, spanIn, ordinalSpanIn, valueIn}
 use Rattle.rules.specs.Context.{ValidationContext, Declared}
 use Rattle.names.specs.NameTable.{maxRecords}
 

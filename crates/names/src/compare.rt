@@ -1,24 +1,61 @@
 // When two names are the same.
 ghost use mathlib.Core.Path.{_≡_};
+ghost use Prim.Native.Nat.{_+_, _≤_, _<_};
+ghost use lib.ListN.{length};
 ghost use Rattle.rules.specs.Words.{sameBytes};
-ghost use Rattle.names.specs.NameTable.{isNamed, sameName};
+ghost use Rattle.sheet.specs.Window.{passes};
+ghost use Rattle.names.specs.Same.{sameAt};
+ghost use Rattle.names.specs.NameTable.{isNamed};
 ghost use Rattle.names.specs.Parts.{recordOf};
 
-// Whether both have the same bytes.
+// Whether the `n` bytes from `at` on are the same. No byte ends the loop early, so that many are compared at once.
+pub fn window_same(a: &[u8], b: &[u8], at: usize, n: usize) -> bool
+    requires { ⌜ (at + n ≤ length (now a)) × (at + n ≤ length (now b)) ⌝ }
+    ensures { λ r. ⌜ r ≡ passes (sameAt (now (a .entry)) (now (b .entry))) at n ⌝ }
+{
+    let mut all = true;
+    for k in 0..n {
+        all = all & (a[at + k] == b[at + k]);
+    }
+    all
+}
+
+// Whether both have the same bytes, by windows of `n` bytes; the last may overlap the one before it.
+fn windows_same(a: &[u8], b: &[u8], n: usize) -> bool
+    requires { ⌜ (0 < n) × (n ≤ length (now a)) × (length (now a) ≡ length (now b)) ⌝ }
+    ensures { λ r. ⌜ r ≡ passes (sameAt (now (a .entry)) (now (b .entry))) 0 (length (now (a .entry))) ⌝ }
+{
+    let last = a.len() - n;
+    if !window_same(a, b, last, n) {
+        return false;
+    }
+    let mut i = 0;
+    while i < last {
+        if !window_same(a, b, i, n) {
+            return false;
+        }
+        i += n;
+    }
+    true
+}
+
+// Whether both have the same bytes, by windows that suit the length of a name.
 pub fn same_bytes(a: &[u8], b: &[u8]) -> bool
     ensures { λ r. ⌜ r ≡ sameBytes (now (a .entry)) (now (b .entry)) ⌝ }
 {
     if a.len() != b.len() {
         return false;
     }
-    let mut i = 0;
-    while i < a.len() {
-        if a[i] != b[i] {
-            return false;
-        }
-        i += 1;
+    if a.len() < 4 {
+        return window_same(a, b, 0, a.len());
     }
-    true
+    if a.len() < 8 {
+        return windows_same(a, b, 4);
+    }
+    if a.len() < 32 {
+        return windows_same(a, b, 8);
+    }
+    windows_same(a, b, 16)
 }
 
 // Whether record `i` has a name, and the name fits.
@@ -26,17 +63,4 @@ pub fn is_named(sheet: &[u8], names: &[u8], i: usize) -> bool
     ensures { λ r. ⌜ r ≡ isNamed (recordOf (now (sheet .entry)) (now (names .entry)) i) ⌝ }
 {
     sheet::has_name(sheet, i) & sheet::fits(sheet, names, i)
-}
-
-// Whether records `i` and `j` both have a name, and the names have the same bytes.
-pub fn same_name(sheet: &[u8], names: &[u8], i: usize, j: usize) -> bool
-    ensures { λ r. ⌜ r ≡ sameName (recordOf (now (sheet .entry)) (now (names .entry)) i) (recordOf (now (sheet .entry)) (now (names .entry)) j) ⌝ }
-{
-    if !is_named(sheet, names, i) {
-        return false;
-    }
-    if !is_named(sheet, names, j) {
-        return false;
-    }
-    same_bytes(sheet::name(sheet, names, j), sheet::name(sheet, names, i))
 }

@@ -1,12 +1,8 @@
-// How many records the table is about, and what it counts among them.
+// How many records the table is about, and numbers of 16 bits.
 ghost use mathlib.Core.Path.{_≡_};
-ghost use mathlib.Core.List.{List};
-ghost use Prim.Native.Nat.{ℕ, _≤_, _<_};
-ghost use lib.ListN.{length};
-ghost use Rattle.rules.specs.Kind;
-ghost use Rattle.rules.specs.Record.{is};
-ghost use Rattle.rules.specs.Words.{numberIf, anyOf, select};
-ghost use Rattle.names.specs.Parts.{knownCount, known};
+ghost use Prim.Native.Nat.{_≤_, _<_};
+ghost use Rattle.rules.specs.Words.{numberIf};
+ghost use Rattle.names.specs.Parts.{knownCount};
 
 // The most records of a sheet.
 const MAX_RECORDS: usize = 1024;
@@ -27,34 +23,16 @@ pub fn short(n: usize) -> u16
     n as u16
 }
 
-// 1 if there is a wildcard, else 0.
-pub fn wildcards(sheet: &[u8]) -> u16
-    ensures { λ r. ⌜ ((names : List ℕ) → r ≡ numberIf (anyOf (is Kind.Wildcard) (known (now (sheet .entry)) names)) 1) ⌝ }
+// The number, as an index.
+pub fn index(n: u16) -> usize
+    ensures { λ r. ⌜ r ≡ n ⌝ }
 {
-    let n = count(sheet);
-    for j in 0..n {
-        if sheet::kind(sheet, j) == sheet::kinds::WILDCARD {
-            return 1;
-        }
-    }
-    0
+    n as usize
 }
 
 // 1 if the test passed, else 0.
-fn one_if(test: bool) -> u16
+pub fn one_if(test: bool) -> u16
     ensures { λ r. ⌜ (r ≡ numberIf test 1) × (r ≤ 1) ⌝ }
 {
     if test { 1 } else { 0 }
-}
-
-// How many declarations there are.
-pub fn declarations(sheet: &[u8]) -> u16
-    ensures { λ r. ⌜ ((names : List ℕ) → r ≡ length (select (is Kind.Declaration) (known (now (sheet .entry)) names))) ⌝ }
-{
-    let n = count(sheet);
-    let mut found: u16 = 0;
-    for j in 0..n {
-        found += one_if(sheet::kind(sheet, j) == sheet::kinds::DECLARATION);
-    }
-    found
 }

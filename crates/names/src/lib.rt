@@ -1,11 +1,13 @@
 // The table of names: what the rules ask of the name of each record, worked out once.
+mod clear;
+mod codes;
 mod compare;
 mod count;
-mod declared;
+mod hash;
 mod ids;
-mod imports;
 mod layout;
 mod lookup;
+mod notes;
 mod parts;
 mod values;
 mod whole;

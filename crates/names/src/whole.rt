@@ -19,7 +19,7 @@ fn fill_front(sheet: &[u8], names: &[u8], table: &mut [u16])
 
 // Fills the rest.
 fn fill_back(sheet: &[u8], names: &[u8], table: &mut [u16])
-    requires { ⌜ length (now table) ≡ 5122 ⌝ }
+    requires { ⌜ (length (now table) ≡ 5122) × (take 3072 (now table) ≡ (ids (now sheet) (now names) ++ declarations (now sheet) (now names)) ++ imported (now sheet) (now names)) ⌝ }
     ensures { λ _. ⌜ now (table .exit) ≡ ((take 3072 (now (table .entry)) ++ targets (now (sheet .entry)) (now (names .entry))) ++ codes (now (sheet .entry)) (now (names .entry))) ++ totals (now (sheet .entry)) (now (names .entry)) ⌝ }
 {
     parts::fill_targets(sheet, names, table);

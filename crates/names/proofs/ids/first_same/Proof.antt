@@ -1,22 +1,16 @@
--- `names::ids::first_same` meets its contract. The loop's invariant: no record before `j` has the same name.
-use Prim.Native.Nat.{_≤_, _-_}
-use mathlib.Core.Path.{_≡_}
-use lib.ListN.{drop}
+-- `names::ids::first_same` meets its contract. The loop's invariant: every first record before `i` with the name stands before the place.
 use borrow.Author.Needs.{needs}
-use Rattle.names.specs.NameTable.{placeOf, sameName}
-use Rattle.names.specs.Parts.{known, recordOf}
-use Rattle.names.proofs.Places.{later, place-start}
-use Rattle.names.proofs.Found.{found-here, found-next, found-none}
+use Rattle.names.proofs.Leads.{Walk, walk-start, walk-ended, walk-found, walk-on, walk-less}
 use Rattle.names.proofs.ids.first_same.Statement.{statement}
 use Rattle.names.proofs.ids.first_same.Tie as tie
 
 abbrev Inv-loop : tie.InvT-loop
-Inv-loop sheet names i n j₀ j = (j ≤ n) × (placeOf (sameName (recordOf sheet names i)) (known sheet names) ≡ later j (placeOf (sameName (recordOf sheet names i)) (drop j (known sheet names))))
+Inv-loop sheet names heads links i name b place₀ place = Walk sheet names i place
 
 abbrev μ-loop : tie.MeasureT-loop
-μ-loop sheet names i n j₀ j = n - j
+μ-loop sheet names heads links i name b place₀ place = place
 
-ruleset laws = (needs, place-start, found-here, found-next, found-none)
+ruleset laws = (needs, walk-ended, walk-found, walk-on, walk-less)
 
 pub first-same-spec : {M : Type 1} → statement M
 first-same-spec =
@@ -24,13 +18,19 @@ first-same-spec =
     (tie.spec
     Inv-loop
     μ-loop
-    (λ c κs. search laws)
+    (λ c. search needs)
+    (λ c. search needs)
+    (λ c κs. search needs)
+    (λ c.
+    let asked = c .before .before .before .before .before .pre in
+    walk-start _ _ _ _ _ _ _ (asked .0) (asked .3) (asked .5) (c .index .ensures))
+    (λ c. search needs)
+    (λ c κs. search needs)
+    (λ c κs. search needs)
     (λ c. search laws)
-    (λ c κs. search laws)
-    (λ c. search laws)
-    (λ c κs. search laws)
-    (λ c. search laws)
-    (λ c. search laws)
+    (λ c. search needs)
+    (λ c. search needs)
+    (λ c κs. search needs)
     (λ c. search laws)
     (λ c. search laws)
     (λ c. search laws))

@@ -1,6 +1,6 @@
 -- `names::words::late_word` meets its contract: the words are tried in their order.
 use borrow.Author.Needs.{needs}
-use Rattle.names.proofs.Codes.{word-here, word-later, word-none}
+use Rattle.names.proofs.WordCodes.{word-here, word-later, word-none}
 use Rattle.names.proofs.words.late_word.Statement.{statement}
 use Rattle.names.proofs.words.late_word.Tie as tie
 

@@ -1,18 +1,9 @@
--- `names::words::name_code` meets its contract: a word first, then the empty name, then a name that a bit may have.
+-- `names::words::name_code` meets its contract: nothing is known of the name's bytes.
 use borrow.Author.Needs.{needs}
-use Rattle.names.proofs.Codes.{code-word, code-blank, code-valid, code-invalid}
+use Rattle.names.specs.Code.{GoesOn}
 use Rattle.names.proofs.words.name_code.Statement.{statement}
 use Rattle.names.proofs.words.name_code.Tie as tie
 
-ruleset laws = (needs, code-word, code-blank, code-valid, code-invalid)
-
 pub name-code-spec : {M : Type 1} → statement M
-name-code-spec =
-    tie.close
-    (tie.spec
-    (λ c κs. search laws)
-    (λ c. search laws)
-    (λ c. search laws)
-    (λ c κs. search laws)
-    (λ c. search laws)
-    (λ c. search laws))
+unfolding GoesOn
+name-code-spec = tie.close (tie.spec (λ c κs. λ e. cc) (λ c. search needs))
