@@ -1,12 +1,14 @@
 -- A step of the machine: what each arm of the code answers is what the definition says there.
 use Prim.Native.Nat.{ℕ}
 use mathlib.Core.Path.{_≡_, refl, sym, ap, _∙_}
-use mathlib.Core.Bool.{Bool, true, false, _&&_}
+use mathlib.Core.Bool.{Bool, true, false, not, _&&_, false≢true}
 use mathlib.Core.List.{List, []}
 use lib.ListN.{set}
 use lib.Dec.{eqb, leb}
-use borrow.Author.Tests.{ne-eqb, eq-eqb}
+use borrow.Author.Tests.{ne-eqb, eq-eqb, eqb-false, not-true, not-false}
 use Rattle.rules.specs.Words.{within}
+use Rattle.rules.specs.Kind
+use Rattle.rules.proofs.Lists.{and-left, and-right}
 use Rattle.rules.specs.Grammar as Grammar
 use Rattle.rules.specs.Grammar.{Due, TypeState, FieldListState, lifted, guarded, typeStep, fieldListStep, enumStep, unionStep, contextStep, step, typeDue, noType, noneDue, done, opened}
 use Rattle.rules.specs.declared.answer.Refusal.{Refusal}
@@ -23,9 +25,9 @@ use Rattle.refusals.specs.declared.state.ItemStep.the-variants as ItemSt
 use Rattle.refusals.specs.declared.state.Step.{Step}
 use Rattle.refusals.specs.declared.state.Step.the-variants as Step
 use Rattle.refusals.specs.Due.{bare, partAt, dueOf, dues, Sound, partStepOf, PartSound}
-use Rattle.refusals.specs.States.{isBits, typeItem, bitsAfter, typeWith, typeIn, inBody, fieldListOf, doneAt, enumOf, movedTo, takenTo, itemStepOf, ItemSound, stateOf, stepOf, StepSound, Leads}
+use Rattle.refusals.specs.States.{isBits, typeItem, bitsAfter, typeWith, typeIn, inBody, inFields, GoesOn, fieldListOf, doneAt, enumOf, movedTo, takenTo, itemStepOf, ItemSound, stateOf, stepOf, StepSound, Leads}
 use Rattle.refusals.proofs.Stack.{none-due, sound-none}
-use Rattle.refusals.proofs.Items.{choice, begins-sound, begins-dues, done-at}
+use Rattle.refusals.proofs.Items.{choice, begins-sound, begins-dues, done-at, typed-moved, list-goes-on}
 use Rattle.refusals.proofs.KindOnly.{type-kind, list-kind, enum-kind, union-kind}
 
 -- what the machine's step has to be
@@ -36,7 +38,7 @@ Stepped r stack x = (stepOf r stack ≡ x) × StepSound r stack
 pub fault-leads : (x : Grammar.Step Grammar.State) → Grammar.fault 6 ≡ x → Leads (Step.Fault Why.OutOfOrder) x
 fault-leads x e stack s = (e, tt)
 
-pub between-leads : (body : Body) → Leads (Step.To (record { body = body; item = Item.Between; height = 0 })) (Grammar.to (inBody body Item.Between []))
+pub between-leads : (body : Body) → Leads (Step.To body Item.Between 0) (Grammar.to (inBody body Item.Between []))
 unfolding stateOf dues
 between-leads body stack s = (refl, s)
 
@@ -49,7 +51,7 @@ leads-at r x y stack h e s l = let p = l stack (sound-none stack h s) in (p .0 �
 
 -- a type is due
 pub due-stepped : (stack : List ℕ) (body : Body) → Sound stack 0
-    → Stepped (Step.To (record { body = body; item = Item.Typed; height = 1 })) (set stack 0 3) (Grammar.to (typeIn body typeDue))
+    → Stepped (Step.To body Item.Typed 1) (set stack 0 3) (Grammar.to (typeIn body typeDue))
 unfolding stateOf dueOf partAt
 due-stepped stack body s = (rw (begins-dues stack 3 0 s), begins-sound stack 3 0 refl s)
 
@@ -78,14 +80,14 @@ module _ (sub : ℕ) where
 -- a step in a type, in a body
 module _ (body : Body) where
   pub settled-on : (item : Item) (p : PartStep) (h : ℕ) → p ≡ PartStep.To h
-      → Step.To (record { body = body; item = item; height = h }) ≡ takenTo body (movedTo item p)
+      → Step.To body item h ≡ takenTo body (movedTo item p)
   settled-on item p h e = sym (ap (λ (q : PartStep). takenTo body (movedTo item q)) e)
 
   pub settled-fault : (item : Item) (p : PartStep) (why : Refusal) → p ≡ PartStep.Fault why → Step.Fault why ≡ takenTo body (movedTo item p)
   settled-fault item p why e = sym (ap (λ (q : PartStep). takenTo body (movedTo item q)) e)
 
   pub taken-on : (p : ItemStep) (item : Item) (h : ℕ) → p ≡ ItemStep.To item h
-      → Step.To (record { body = body; item = item; height = h }) ≡ takenTo body p
+      → Step.To body item h ≡ takenTo body p
   taken-on p item h e = sym (ap (takenTo body) e)
 
   pub taken-fault : (p : ItemStep) (why : Refusal) → p ≡ ItemStep.Fault why → Step.Fault why ≡ takenTo body p
@@ -268,6 +270,31 @@ module _ (kind sub h : ℕ) (bits : Bool) (stack : List ℕ) where
         type-in-context (typeStep here (bare kind 0)) ∙ ap (lifted Grammar.context) (sym (type-kind (bare kind sub) here))
         ∙ sym (context-as false false f (ne-eqb kind 10 k))
 
+-- in a field list, or in none
+module _ (body : Body) (kind : ℕ) where
+  pub variant-fields : (starts : Bool) → body ≡ Body.Variant → starts ≡ within 14 15 kind → not starts ≡ inFields body kind
+  variant-fields starts e h = ap not h ∙ sym (ap (λ (b : Body). inFields b kind) e)
+
+  module _ (f : inFields body kind ≡ false) where
+    pub no-message : body ≡ Body.Message → ⊥
+    no-message e = false≢true (sym f ∙ ap (λ (b : Body). inFields b kind) e)
+
+    pub variant-starts : body ≡ Body.Variant → within 14 15 kind ≡ true
+    variant-starts e = not-false (within 14 15 kind) (sym (ap (λ (b : Body). inFields b kind) e) ∙ f)
+
+-- what the four tests of a type that goes on say
+pub goes-on : (body : Body) (item : Item) (h kind : ℕ) (message typed type : Bool) → (message ≡ true → body ≡ Body.Message) → (typed ≡ true → item ≡ Item.Typed)
+    → type ≡ Kind.isType kind → (((message && typed) && not (eqb h 0)) && type) ≡ true → GoesOn body item h kind
+goes-on body item h kind message typed type hm ht hy e =
+    let three = and-left ((message && typed) && not (eqb h 0)) type e in
+    let two = and-left (message && typed) (not (eqb h 0)) three in
+    record {
+      message = hm (and-left message typed two);
+      typed = ht (and-right message typed two);
+      some = eqb-false h 0 (not-true (eqb h 0) (and-right (message && typed) (not (eqb h 0)) three));
+      type = sym hy ∙ and-right ((message && typed) && not (eqb h 0)) type e;
+    }
+
 -- the body that the machine stands in
 module _ (s : State) (stack : List ℕ) (kind sub : ℕ) where
   state-in : (body : Body) → s .body ≡ body → stateOf s stack ≡ inBody body (s .item) (dues stack (s .height))
@@ -316,6 +343,31 @@ module _ (s : State) (stack : List ℕ) (kind sub : ℕ) where
   in-newtype e =
       step-in Body.Newtype _ e
       (type-in-newtype (typeStep (typeWith (isBits (s .item)) (dues stack (s .height))) (bare kind 0)) ∙ ap (lifted Grammar.newtype) (sym (type-kind (bare kind sub) (typeWith (isBits (s .item)) (dues stack (s .height))))))
+
+  -- in a field list
+  pub fields-stepped : (p : ItemStep) (r : Step) (after : List ℕ) → inFields (s .body) kind ≡ true
+      → (itemStepOf p after ≡ fieldListStep (fieldListOf (s .item) (dues stack (s .height))) (bare kind 0)) × ItemSound p after
+      → r ≡ takenTo (s .body) p → Stepped r after (step (stateOf s stack) (bare kind sub))
+  fields-stepped p r after t hp hr = go (s .body) refl t hr
+    where
+      go : (body : Body) → s .body ≡ body → inFields body kind ≡ true → r ≡ takenTo body p → Stepped r after (step (stateOf s stack) (bare kind sub))
+      go Body.Context e i h = absurd (false≢true i)
+      go Body.Message e i h = let q = message-stepped p r after _ hp h in (q .0 ∙ in-message e, q .1)
+      go Body.Unbacked e i h = absurd (false≢true i)
+      go Body.Backed e i h = absurd (false≢true i)
+      go Body.Flags e i h = absurd (false≢true i)
+      go Body.Outside e i h = absurd (false≢true i)
+      go Body.Variant e i h =
+          let q = variant-stepped kind (within 14 15 kind) refl p r after _ (not-true (within 14 15 kind) i) hp h in (q .0 ∙ in-variant e, q .1)
+      go Body.Newtype e i h = absurd (false≢true i)
+
+  pub type-stepped : GoesOn (s .body) (s .item) (s .height) kind → (next : Item) (p : PartStep) (r : Step) (after : List ℕ) → next ≡ typeItem (bitsAfter kind)
+      → (lifted (typeWith (bitsAfter kind)) (partStepOf p after) ≡ typeStep (typeWith false (dues stack (s .height))) (bare kind 0)) × PartSound p after
+      → r ≡ takenTo (s .body) (movedTo next p) → Stepped r after (step (stateOf s stack) (bare kind sub))
+  type-stepped g next p r after hn hp hr =
+      let q = typed-moved kind next p (movedTo next p) after (typeStep (typeWith false (dues stack (s .height))) (bare kind 0)) hn hp refl in
+      fields-stepped (movedTo next p) r after (ap (λ (b : Body). inFields b kind) (g .message))
+      (list-goes-on (s .item) kind (s .height) stack _ (g .typed) (g .some) (g .type) (q .0), q .1) hr
 
   -- where the sheet may end
   done-in : (body : Body) (b : Bool) → s .body ≡ body → b ≡ done (inBody body (s .item) (dues stack (s .height))) → b ≡ done (stateOf s stack)

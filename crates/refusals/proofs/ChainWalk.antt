@@ -1,6 +1,6 @@
 -- Row 9 takes the newtypes in turn, and asks the table for the type behind a type.
 use Prim.Native.Nat.{ℕ, zero, suc, _+_, _-_, _/_, _<_, _≤_}
-use native.Mathlib.Decide.{decLe}
+use native.Mathlib.Decide.{decLe, decLt, ℕ-discrete}
 use native.Mathlib.Omega.{arith}
 use native.Mathlib.Numerals.{add-one}
 use mathlib.Core.Path.{_≡_, refl, sym, ap, _∙_}
@@ -16,6 +16,7 @@ use Rattle.rules.specs.Context.{Declared, ValidationContext, behind, neverEnds}
 use Rattle.rules.specs.Refusals.{Fault, leadsNowhere, endlessChain}
 use Rattle.rules.proofs.Chains.{isSome}
 use Rattle.names.specs.View.{viewAt, viewFrom, viewOf, entryOf, declarationPart, targetPart, declaredBy, contextBy}
+use Rattle.refusals.specs.Pass.{Ended}
 use Rattle.refusals.specs.Turned.{placed, endlessBy}
 
 -- the records of a view
@@ -96,25 +97,33 @@ module _ (table sheet : List ℕ) where
   next-some (suc p) o e n = let back : suc p - 1 ≡ p = omega arith in rw back e
 
   -- a newtype whose chain never ends
-  module _ (i n kind sub : ℕ) (hk : kind ≡ kindIn (recordBytes sheet i)) (hs : sub ≡ subIn (recordBytes sheet i)) where
-    endless-as : (b : Bool) → (eqb kind 1 && eqb sub 4) ≡ b → isOf 1 4 (viewAt sheet i) ≡ b
+  module _ (i n kind : ℕ) (hk : kind ≡ kindIn (recordBytes sheet i)) where
+    abbrev rest : Bool
+    rest = leadsNowhere ctx (viewOf sheet (i + 1) n)
+
+    abbrev both : Bool → Bool → Bool
+    both k q = (k && q) && rest
+
+    pub other-kind : (kind ≡ 1 → ⊥) → false ≡ (isOf 1 4 (viewAt sheet i) && rest)
     unfolding viewAt
-    endless-as b e = sym (ap (λ (k : ℕ). eqb k 1 && eqb sub 4) hk ∙ ap (λ (q : ℕ). eqb (kindIn (recordBytes sheet i)) 1 && eqb q 4) hs) ∙ e
+    other-kind ne = sym (ap (λ (k : Bool). both k (eqb (subIn (recordBytes sheet i)) 4)) (ap (λ (k : ℕ). eqb k 1) (sym hk) ∙ ne-eqb kind 1 ne))
 
-    pub other-ends : (eqb kind 1 && eqb sub 4) ≡ false → false ≡ (isOf 1 4 (viewAt sheet i) && leadsNowhere ctx (viewOf sheet (i + 1) n))
-    other-ends e = sym (ap (λ (b : Bool). b && leadsNowhere ctx (viewOf sheet (i + 1) n)) (endless-as false e))
+    module _ (e : kind ≡ 1) (sub : ℕ) (hs : sub ≡ subIn (recordBytes sheet i)) where
+      declared-as : (b : Bool) → eqb sub 4 ≡ b → (isOf 1 4 (viewAt sheet i) && rest) ≡ both true b
+      unfolding viewAt
+      declared-as b q =
+          ap (λ (k : Bool). both k (eqb (subIn (recordBytes sheet i)) 4)) (ap (λ (k : ℕ). eqb k 1) (sym hk) ∙ eq-eqb kind 1 e)
+          ∙ ap (both true) (ap (λ (m : ℕ). eqb m 4) (sym hs) ∙ q)
 
-    module _ (e : (eqb kind 1 && eqb sub 4) ≡ true) where
-      pub last-ends : n ≤ i + 1 → false ≡ (isOf 1 4 (viewAt sheet i) && leadsNowhere ctx (viewOf sheet (i + 1) n))
-      last-ends h =
-          sym (ap (λ (b : Bool). b && leadsNowhere ctx (viewOf sheet (i + 1) n)) (endless-as true e) ∙ ap (leadsNowhere ctx) (view-end sheet (i + 1) n h))
+      pub other-ends : (sub ≡ 4 → ⊥) → false ≡ (isOf 1 4 (viewAt sheet i) && rest)
+      other-ends ne = sym (declared-as false (ne-eqb sub 4 ne))
 
-      pub newtype-walked : (r : Bool) → i + 1 < n → r ≡ neverEnds ctx (viewAt sheet (i + 1))
-          → r ≡ (isOf 1 4 (viewAt sheet i) && leadsNowhere ctx (viewOf sheet (i + 1) n))
-      newtype-walked r h hr =
-          hr
-          ∙ sym (ap (λ (b : Bool). b && leadsNowhere ctx (viewOf sheet (i + 1) n)) (endless-as true e)
-          ∙ ap (leadsNowhere ctx) (view-cons sheet (i + 1) n h))
+      module _ (four : sub ≡ 4) where
+        pub last-ends : n ≤ i + 1 → false ≡ (isOf 1 4 (viewAt sheet i) && rest)
+        last-ends h = sym (declared-as true (eq-eqb sub 4 four) ∙ ap (leadsNowhere ctx) (view-end sheet (i + 1) n h))
+
+        pub newtype-walked : (r : Bool) → i + 1 < n → r ≡ neverEnds ctx (viewAt sheet (i + 1)) → r ≡ (isOf 1 4 (viewAt sheet i) && rest)
+        newtype-walked r h hr = hr ∙ sym (declared-as true (eq-eqb sub 4 four) ∙ ap (leadsNowhere ctx) (view-cons sheet (i + 1) n h))
 
   -- the first of them
   abbrev chosen : ℕ → ℕ → Bool → Option Fault
@@ -139,3 +148,29 @@ module _ (table sheet : List ℕ) where
   pub endless-starts : (n : ℕ) → n ≡ length sheet / 32 → endlessChain ctx 0 (viewOf sheet 0 n) ≡ endlessBy table sheet
   unfolding endlessBy
   endless-starts n e = ap (λ (m : ℕ). endlessChain ctx 0 (viewOf sheet 0 m)) e
+
+  -- no newtype is left
+  no-newtype : (i n : ℕ) → (kindIn (recordBytes sheet i) ≡ 1 → subIn (recordBytes sheet i) ≡ 4 → ⊥)
+      → false ≡ (isOf 1 4 (viewAt sheet i) && leadsNowhere ctx (viewOf sheet (i + 1) n))
+  no-newtype i n f = go (ℕ-discrete (kindIn (recordBytes sheet i)) 1)
+    where
+      go : Dec (kindIn (recordBytes sheet i) ≡ 1) → false ≡ (isOf 1 4 (viewAt sheet i) && leadsNowhere ctx (viewOf sheet (i + 1) n))
+      go (yes e) = other-ends i n (kindIn (recordBytes sheet i)) refl e (subIn (recordBytes sheet i)) refl (f e)
+      go (no ne) = other-kind i n (kindIn (recordBytes sheet i)) refl ne
+
+  pub endless-rest : (k i n : ℕ) (all : Option Fault) → n ≤ i + k → endlessChain ctx i (viewOf sheet i n) ≡ all
+      → ((j : ℕ) → i ≤ j → j < n → kindIn (recordBytes sheet j) ≡ 1 → subIn (recordBytes sheet j) ≡ 4 → ⊥) → none ≡ all
+  endless-rest zero i n all h inv f = endless-none i n all inv (omega arith)
+  endless-rest (suc k) i n all h inv f = go (endless-rest k (i + 1) n all) (decLt i n)
+    where
+      go : (n ≤ i + 1 + k → endlessChain ctx (i + 1) (viewOf sheet (i + 1) n) ≡ all
+          → ((j : ℕ) → i + 1 ≤ j → j < n → kindIn (recordBytes sheet j) ≡ 1 → subIn (recordBytes sheet j) ≡ 4 → ⊥) → none ≡ all) → Dec (i < n) → none ≡ all
+      go next (no l) = endless-none i n all inv (omega arith)
+      go next (yes l) = next (omega arith) (endless-again i n false all inv (no-newtype i n (f i (omega arith) l)) l refl) (λ j a b. f j (omega arith) b)
+
+  module _ (end n : ℕ) (e : Ended sheet end (length sheet / 32)) where
+    pub past-end : (i : ℕ) (all : Option Fault) → n ≡ length sheet / 32 → endlessChain ctx i (viewOf sheet i n) ≡ all → end ≤ i → none ≡ all
+    past-end i all hn inv h = endless-rest n i n all (omega arith) inv (λ j a b. e .none j (omega arith) (omega arith))
+
+  pub none-at-all : (end : ℕ) → Ended sheet end (length sheet / 32) → end ≡ 0 → none ≡ endlessBy table sheet
+  none-at-all end e z = past-end end (length sheet / 32) e 0 (endlessBy table sheet) refl (endless-starts (length sheet / 32) refl) (omega arith)

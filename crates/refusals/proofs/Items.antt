@@ -7,7 +7,8 @@ use mathlib.Core.List.{List, [], _∷_}
 use lib.ListN.{getD, set, length-set}
 use lib.Seq.{getD-set-same}
 use lib.Dec.{eqb, leb}
-use borrow.Author.Tests.{ne-eqb}
+use borrow.Author.Tests.{ne-eqb, lt-leb}
+use Rattle.rules.specs.Kind
 use Rattle.rules.specs.Grammar as Grammar
 use Rattle.rules.specs.Grammar.{Due, TypeState, FieldState, FieldListState, lifted, guarded, partStep, typeStep, fieldStep, fieldListStep, fieldListDone, inFieldItem, field, typed, conditioned, annotations, fieldItem, typeDue}
 use Rattle.refusals.specs.declared.state.Item.{Item}
@@ -17,6 +18,7 @@ use Rattle.refusals.specs.declared.state.PartStep.the-variants as PartSt
 use Rattle.refusals.specs.declared.state.ItemStep.{ItemStep}
 use Rattle.refusals.specs.declared.state.ItemStep.the-variants as ItemStep
 use Rattle.rules.specs.declared.answer.Refusal.{Refusal}
+use Rattle.rules.proofs.Taken.{within-true}
 use Rattle.refusals.specs.Due.{bare, partAt, dueOf, dues, Sound, partStepOf, PartSound}
 use Rattle.refusals.specs.States.{typeItem, bitsAfter, typeWith, fieldListOf, doneAt, begunBy, conditionDue, movedTo, itemStepOf, ItemSound}
 use Rattle.refusals.proofs.Stack.{none-due}
@@ -153,6 +155,10 @@ module _ (kind : ℕ) (arguments : Bool) where
       e ∙ sym (lifted-twice typed field (typeStep typeDue (bare kind 0))) ∙ sym (ap (lifted field) (first ∙ ap (choice argument other) (ne-eqb kind 21 n₁)))
 
 -- a type that goes on, or a condition
+and-false : (b : Bool) → (b && false) ≡ false
+and-false true = refl
+and-false false = refl
+
 module _ (kind h : ℕ) (bits : Bool) (stack : List ℕ) (x : Grammar.Step FieldListState) where
   field-typed : (b : Bool) → (eqb h 0 && not (eqb kind 22)) ≡ b
       → fieldStep (typed (typeWith bits (dues stack h))) (bare kind 0)
@@ -162,15 +168,25 @@ module _ (kind h : ℕ) (bits : Bool) (stack : List ℕ) (x : Grammar.Step Field
       ap (choice (lifted conditioned (partStep conditionDue (bare kind 0))) (lifted typed (typeStep (typeWith bits (dues stack h)) (bare kind 0))))
       (ap (λ (e : Bool). e && not (eqb kind 22)) (none-due stack h) ∙ t)
 
-  pub condition-follows : (eqb h 0 && not (eqb kind 22)) ≡ true → x ≡ lifted (λ ds. field (conditioned ds)) (partStep conditionDue (bare kind 0))
+  pub condition-follows : (kind ≡ 22 → ⊥) → h ≡ 0 → x ≡ lifted (λ ds. field (conditioned ds)) (partStep conditionDue (bare kind 0))
       → x ≡ lifted field (fieldStep (typed (typeWith bits (dues stack h))) (bare kind 0))
-  condition-follows t e = e ∙ sym (lifted-twice conditioned field (partStep conditionDue (bare kind 0))) ∙ sym (ap (lifted field) (field-typed true t))
+  condition-follows n z e =
+      let t : (eqb h 0 && not (eqb kind 22)) ≡ true = rw (z, ne-eqb kind 22 n) in
+      e ∙ sym (lifted-twice conditioned field (partStep conditionDue (bare kind 0))) ∙ sym (ap (lifted field) (field-typed true t))
 
-  pub type-goes-on : (eqb h 0 && not (eqb kind 22)) ≡ false
+  type-on : (eqb h 0 && not (eqb kind 22)) ≡ false
       → x ≡ lifted (λ t. field (typed t)) (typeStep (typeWith bits (dues stack h)) (bare kind 0))
       → x ≡ lifted field (fieldStep (typed (typeWith bits (dues stack h))) (bare kind 0))
-  type-goes-on t e =
+  type-on t e =
       e ∙ sym (lifted-twice typed field (typeStep (typeWith bits (dues stack h)) (bare kind 0))) ∙ sym (ap (lifted field) (field-typed false t))
+
+  pub bit-goes-on : kind ≡ 22 → x ≡ lifted (λ t. field (typed t)) (typeStep (typeWith bits (dues stack h)) (bare kind 0))
+      → x ≡ lifted field (fieldStep (typed (typeWith bits (dues stack h))) (bare kind 0))
+  bit-goes-on k = type-on (rw k (and-false (eqb h 0)))
+
+  pub type-goes-on : (h ≡ 0 → ⊥) → x ≡ lifted (λ t. field (typed t)) (typeStep (typeWith bits (dues stack h)) (bare kind 0))
+      → x ≡ lifted field (fieldStep (typed (typeWith bits (dues stack h))) (bare kind 0))
+  type-goes-on n = type-on (rw (ne-eqb h 0 n))
 
 -- a record within an item
 module _ (item : Item) (kind : ℕ) (ds : List Due) where
@@ -224,3 +240,11 @@ module _ (item : Item) (kind h : ℕ) (stack : List ℕ) (done : Bool) (hd : don
 pub item-goes-on : (s : FieldListState) (kind : ℕ) (x : Grammar.Step FieldListState) → (leb 11 kind && leb kind 13) ≡ false → x ≡ inFieldItem s (bare kind 0)
     → x ≡ fieldListStep s (bare kind 0)
 item-goes-on s kind x t e = e ∙ sym (list-step s kind false t)
+
+-- a type goes on with a type
+pub list-goes-on : (item : Item) (kind h : ℕ) (stack : List ℕ) (x : Grammar.Step FieldListState) → item ≡ Item.Typed → (h ≡ 0 → ⊥) → Kind.isType kind ≡ true
+    → x ≡ lifted (λ t. field (typed t)) (typeStep (typeWith false (dues stack h)) (bare kind 0)) → x ≡ fieldListStep (fieldListOf item (dues stack h)) (bare kind 0)
+list-goes-on item kind h stack x e n t hx =
+    let inside = within-true 30 48 kind t in
+    let other : (leb 11 kind && leb kind 13) ≡ false = ap (λ (b : Bool). leb 11 kind && b) (lt-leb kind 13 (omega arith)) ∙ and-false (leb 11 kind) in
+    item-goes-on (fieldListOf item (dues stack h)) kind x other (in-typed item kind (dues stack h) x e (type-goes-on kind h false stack x n hx))

@@ -1,4 +1,5 @@
 -- Rows 3 to 5.
+pub mod RecordBytes
 pub mod OwnFaults
 -- The grammar's machine.
 pub mod Stack

@@ -14,9 +14,10 @@ use Rattle.rules.specs.Kind
 use Rattle.rules.specs.Kind.{Part}
 use Rattle.rules.specs.Grammar as Grammar
 use Rattle.rules.specs.Grammar.{dueAt, partStep}
-use Rattle.refusals.specs.Due.{bare, partAt, partNumber, dueOf, dues, Sound}
+use Rattle.rules.proofs.Taken.{within-true}
+use Rattle.refusals.specs.Due.{bare, partAt, partNumber, dueOf, dues, Sound, Taken}
 use Rattle.refusals.proofs.Stack.{dues-above, dues-top, sound-height}
-use Rattle.refusals.proofs.Parts.{kind-uniform}
+use Rattle.refusals.proofs.Parts.{kind-uniform, type-part, number-type}
 
 -- row 6: nothing is due
 pub step-none : (stack : List ℕ) (h kind : ℕ) → h ≡ 0 → Grammar.fault 6 ≡ partStep (dues stack h) (bare kind 0)
@@ -153,3 +154,40 @@ top-within stack h s n = omega (arith, sound-height stack h s)
 
 pub height-within : (stack : List ℕ) (h : ℕ) → Sound stack h → h < 66
 height-within stack h s = omega (arith, sound-height stack h s)
+
+-- the record is such a part
+module _ (stack : List ℕ) (h kind p : ℕ) (t : Taken stack h kind p) where
+  pub taken-deep : 64 < getD stack (h - 1) 0 / 3 → Grammar.fault 7 ≡ partStep (dues stack h) (bare kind 0)
+  taken-deep d = step-deep stack h kind (t .some) true (sym (t .fits)) refl d
+
+  pub taken-parts : (n : ℕ) → kind < 256 → getD stack (h - 1) 0 / 3 ≤ 64 → n ≡ length (Kind.partsOf kind)
+      → (Grammar.to (dues (set (set stack (h - 1) (3 * (getD stack (h - 1) 0 / 3 + 1) + p)) h (3 * (getD stack (h - 1) 0 / 3 + 1) + p)) (h - 1 + n))
+      ≡ partStep (dues stack h) (bare kind 0))
+      × Sound (set (set stack (h - 1) (3 * (getD stack (h - 1) 0 / 3 + 1) + p)) h (3 * (getD stack (h - 1) 0 / 3 + 1) + p)) (h - 1 + n)
+  taken-parts n hk d hn = part-taken stack h kind p n true hk (t .sound) (t .some) (sym (t .fits)) refl d (t .parts, t .small) hn
+
+-- whether the record is such a part
+module _ (stack : List ℕ) (h kind part : ℕ) (s : Sound stack h) (n : h ≡ 0 → ⊥) (hp : part ≡ getD stack (h - 1) 0 % 3) where
+  part-as : (r : Bool) → r ≡ Kind.isPart (partAt part) kind → r ≡ Kind.isPart (partAt (getD stack (h - 1) 0 % 3)) kind
+  part-as r e = e ∙ ap (λ (q : ℕ). Kind.isPart (partAt q) kind) hp
+
+  module _ (z : part ≡ 0) (r : Bool) (e : r ≡ Kind.isType kind) where
+    pub type-taken : r ≡ true → Taken stack h kind 0
+    type-taken t =
+        record {
+          sound = s;
+          some = n;
+          fits = sym (part-as r (type-part part kind r e z)) ∙ t;
+          parts = number-type kind (omega (arith, within-true 30 48 kind (sym e ∙ t) .1));
+          small = omega arith;
+        }
+
+    pub type-other : r ≡ false → Grammar.fault 6 ≡ partStep (dues stack h) (bare kind 0)
+    type-other f = step-other stack h kind n r (part-as r (type-part part kind r e z)) (ap not f)
+
+  module _ (r : Bool) (e : r ≡ Kind.isPart (partAt part) kind) where
+    pub other-taken : (p : ℕ) → not r ≡ false → (p ≡ partNumber kind) × (p < 3) → Taken stack h kind p
+    other-taken p f hn = record { sound = s; some = n; fits = sym (part-as r e) ∙ not-false r f; parts = hn .0; small = hn .1 }
+
+    pub part-other : not r ≡ true → Grammar.fault 6 ≡ partStep (dues stack h) (bare kind 0)
+    part-other t = step-other stack h kind n r (part-as r e) t

@@ -1,13 +1,16 @@
 -- The pass: each turn takes one record off the list of those that are left, and what is left to find from there is what was to find at first.
 use Prim.Native.Nat.{ℕ, suc, _+_, _/_, _<_, _≤_}
 use native.Mathlib.Omega.{arith}
+use native.Mathlib.Decide.{decLt}
 use native.Mathlib.Numerals.{add-one}
 use mathlib.Core.Path.{_≡_, refl, sym, ap, _∙_, subst}
 use mathlib.Core.Bool.{Bool, true, false, not, _&&_}
 use mathlib.Core.List.{List, []}
 use mathlib.Core.Option.{Option, some, none}
-use lib.ListN.{length, drop, replicate}
+use lib.ListN.{length, getD, drop, replicate}
 use lib.Dec.{eqb}
+use borrow.Author.Tests.{eq-eqb, ne-eqb}
+use Rattle.rules.specs.Words.{lookUp}
 use Rattle.rules.specs.Record.{recordBytes, decode, kindIn, subIn, records}
 use Rattle.rules.specs.Grammar as Grammar
 use Rattle.rules.specs.Refusals.{Fault, ownFault}
@@ -18,48 +21,68 @@ use Rattle.rules.proofs.Records.{records-drop, records-end}
 use Rattle.names.specs.View.{entryOf, declarationPart}
 use Rattle.refusals.specs.declared.own.Own.{Own}
 use Rattle.refusals.specs.declared.own.Own.the-variants as Own
+use Rattle.refusals.specs.declared.state.Body.{Body}
+use Rattle.refusals.specs.declared.state.Item.{Item}
 use Rattle.refusals.specs.declared.state.State.{State}
 use Rattle.refusals.specs.declared.state.Step.{Step}
 use Rattle.refusals.specs.declared.state.Step.the-variants as Step
 use Rattle.refusals.specs.Answers.{ownOf}
 use Rattle.refusals.specs.Due.{bare, dues, Sound}
 use Rattle.refusals.specs.States.{startState, stateOf, stepOf, StepSound}
-use Rattle.refusals.specs.Pass.{isSecond, orSecond, declaredTo, recordStepBy, firstFaultBy}
-use Rattle.refusals.proofs.KindOnly.{step-kind}
+use Rattle.refusals.specs.Pass.{isSecond, orSecond, declaredTo, recordStepBy, firstFaultBy, Ended}
+use Rattle.refusals.proofs.OwnFaults.{sub-at}
+use Rattle.refusals.proofs.KindOnly.{step-kind, step-sub}
 
 pub second-read : (table : List ℕ) (i d : ℕ) → d ≡ entryOf declarationPart table i → not (eqb d (i + 1)) ≡ isSecond table i
 second-read table i d e = rw (e, add-one)
 
 -- row 8
-module _ (second : Bool) (p : Step) where
-  pub declared-fault : (why : Refusal) → p ≡ Step.Fault why → Step.Fault why ≡ declaredTo second p
-  declared-fault why e = sym (ap (declaredTo second) e)
+pub declared-fault : (second : Bool) (p : Step) (why : Refusal) → p ≡ Step.Fault why → Step.Fault why ≡ declaredTo second p
+declared-fault second p why e = sym (ap (declaredTo second) e)
 
-  pub declared-second : (s : State) → p ≡ Step.To s → second ≡ true → Step.Fault SecondDeclaration ≡ declaredTo second p
-  declared-second s e t = rw (e, t)
+module _ (kind : ℕ) (second : Bool) (p : Step) where
+  pub declared-other : (body : Body) (item : Item) (height : ℕ) → p ≡ Step.To body item height → (kind ≡ 1 → ⊥) → Step.To body item height ≡ declaredTo (eqb kind 1 && second) p
+  declared-other body item height e n = sym (ap (declaredTo (eqb kind 1 && second)) e ∙ ap (λ (k : Bool). declaredTo (k && second) (Step.To body item height)) (ne-eqb kind 1 n))
 
-  pub declared-to : (s : State) → p ≡ Step.To s → second ≡ false → Step.To s ≡ declaredTo second p
-  declared-to s e t = rw (e, t)
+  module _ (body : Body) (item : Item) (height : ℕ) (e : p ≡ Step.To body item height) (k : kind ≡ 1) (r : Bool) (h : r ≡ second) where
+    declaration : (b : Bool) → r ≡ b → declaredTo (eqb kind 1 && second) p ≡ declaredTo b (Step.To body item height)
+    declaration b t =
+        ap (declaredTo (eqb kind 1 && second)) e ∙ ap (λ (x : Bool). declaredTo (x && second) (Step.To body item height)) (eq-eqb kind 1 k)
+        ∙ ap (λ (x : Bool). declaredTo x (Step.To body item height)) (sym h ∙ t)
+
+    pub declared-second : r ≡ true → Step.Fault SecondDeclaration ≡ declaredTo (eqb kind 1 && second) p
+    declared-second t = sym (declaration true t)
+
+    pub declared-first : r ≡ false → Step.To body item height ≡ declaredTo (eqb kind 1 && second) p
+    declared-first t = sym (declaration false t)
 
 declared-as : (second : Bool) (p : Step) (stack : List ℕ) → stepOf (declaredTo second p) stack ≡ orSecond second (stepOf p stack)
-declared-as true (Step.To s) stack = refl
-declared-as false (Step.To s) stack = refl
+declared-as true (Step.To body item height) stack = refl
+declared-as false (Step.To body item height) stack = refl
 declared-as true (Step.Fault why) stack = refl
 declared-as false (Step.Fault why) stack = refl
 
 declared-sound : (second : Bool) (p : Step) (stack : List ℕ) → StepSound p stack → StepSound (declaredTo second p) stack
-declared-sound true (Step.To s) stack h = tt
-declared-sound false (Step.To s) stack h = h
+declared-sound true (Step.To body item height) stack h = tt
+declared-sound false (Step.To body item height) stack h = h
 declared-sound true (Step.Fault why) stack h = tt
 declared-sound false (Step.Fault why) stack h = tt
 
 -- rows 6 to 8
-pub grammar-stepped : (g : Grammar.State) (b : List ℕ) (kind sub : ℕ) (second other : Bool) (p r : Step) (stack : List ℕ)
-    → kind ≡ kindIn b → sub ≡ subIn b → second ≡ other
+step-read : (g : Grammar.State) (b : List ℕ) (kind sub : ℕ) → kind ≡ kindIn b → sub ≡ getD b 1 0
+    → Grammar.step g (bare kind sub) ≡ Grammar.step g (bare (kindIn b) (subIn b))
+unfolding lookUp
+step-read g b kind sub hk hs =
+    step-sub kind sub (subIn b) (λ e. sub-at b kind sub 1 9 hk hs e refl) (λ e. sub-at b kind sub 10 4 hk hs e refl) g
+    ∙ ap (λ (k : ℕ). Grammar.step g (bare k (subIn b))) hk
+
+pub grammar-stepped : (g : Grammar.State) (b : List ℕ) (kind sub : ℕ) (second : Bool) (p r : Step) (stack : List ℕ)
+    → kind ≡ kindIn b → sub ≡ getD b 1 0
     → (stepOf p stack ≡ Grammar.step g (bare kind sub)) × StepSound p stack → r ≡ declaredTo (eqb kind 1 && second) p
-    → (stepOf r stack ≡ orSecond (eqb (kindIn b) 1 && other) (Grammar.step g (bare (kindIn b) (subIn b)))) × StepSound r stack
-grammar-stepped g b kind sub second other p r stack hk hs ho hp hr = (
-  rw hr (declared-as (eqb kind 1 && second) p stack ∙ ap (orSecond (eqb kind 1 && second)) (hp .0) ∙ rw (hk, hs, ho)),
+    → (stepOf r stack ≡ orSecond (eqb (kindIn b) 1 && second) (Grammar.step g (bare (kindIn b) (subIn b)))) × StepSound r stack
+grammar-stepped g b kind sub second p r stack hk hs hp hr = (
+  rw hr (declared-as (eqb kind 1 && second) p stack ∙ ap (orSecond (eqb kind 1 && second)) (hp .0 ∙ step-read g b kind sub hk hs)
+      ∙ ap (λ (k : ℕ). orSecond (eqb k 1 && second) (Grammar.step g (bare (kindIn b) (subIn b)))) hk),
   rw hr (declared-sound (eqb kind 1 && second) p stack (hp .1)),
 )
 
@@ -129,14 +152,41 @@ module _ (p : Step) (stack : List ℕ) (x : Grammar.Step Grammar.State) (h : (st
   pub fault-found : (why : Refusal) → p ≡ Step.Fault why → Grammar.fault (numberOf why) ≡ x
   fault-found why e = sym (ap (λ (q : Step). stepOf q stack) e) ∙ h .0
 
-  pub state-found : (t : State) → p ≡ Step.To t → Grammar.to (stateOf t stack) ≡ x
-  state-found t e = sym (ap (λ (q : Step). stepOf q stack) e) ∙ h .0
+  pub state-found : (body : Body) (item : Item) (height : ℕ) → p ≡ Step.To body item height
+      → Grammar.to (stateOf (record { body = body; item = item; height = height }) stack) ≡ x
+  state-found body item height e = sym (ap (λ (q : Step). stepOf q stack) e) ∙ h .0
 
-  pub sound-found : (t : State) → p ≡ Step.To t → Sound stack (t .height)
-  sound-found t e = subst (λ (q : Step). StepSound q stack) e (h .1)
+  pub sound-found : (body : Body) (item : Item) (height : ℕ) → p ≡ Step.To body item height → Sound stack height
+  sound-found body item height e = subst (λ (q : Step). StepSound q stack) e (h .1)
 
 pub count-below : (i n m : ℕ) → n ≡ m → i < n → i < m
 count-below i n m e h = omega arith
 
 pub count-reached : (i n m : ℕ) → n ≡ m → n ≤ i → m ≤ i
 count-reached i n m e h = omega arith
+
+-- where the newtypes end
+pub ends-here : (sheet : List ℕ) (i : ℕ) → Ended sheet (i + 1) (i + 1)
+ends-here sheet i = record { within = omega arith; none = λ j a b e q. absurd (omega arith) }
+
+module _ (sheet : List ℕ) (end i : ℕ) where
+  ends-after : Ended sheet end i → (kindIn (recordBytes sheet i) ≡ 1 → subIn (recordBytes sheet i) ≡ 4 → ⊥) → Ended sheet end (i + 1)
+  ends-after h n = record { within = omega (arith, h .within); none = λ j a b. none j a b (decLt j i) }
+    where
+      none : (j : ℕ) → end ≤ j → j < i + 1 → Dec (j < i) → kindIn (recordBytes sheet j) ≡ 1 → subIn (recordBytes sheet j) ≡ 4 → ⊥
+      none j a b (yes l) e q = h .none j a l e q
+      none j a b (no l) e q =
+          let same : i ≡ j = omega arith in
+          n (ap (λ (m : ℕ). kindIn (recordBytes sheet m)) same ∙ e) (ap (λ (m : ℕ). subIn (recordBytes sheet m)) same ∙ q)
+
+  pub other-kind-ends : (kind : ℕ) → Ended sheet end i → kind ≡ kindIn (recordBytes sheet i) → (kind ≡ 1 → ⊥) → Ended sheet end (i + 1)
+  other-kind-ends kind h hk n = ends-after h (λ e q. n (hk ∙ e))
+
+  pub other-sub-ends : (sub : ℕ) → Ended sheet end i → sub ≡ subIn (recordBytes sheet i) → (sub ≡ 4 → ⊥) → Ended sheet end (i + 1)
+  other-sub-ends sub h hs n = ends-after h (λ e q. n (hs ∙ q))
+
+  pub ends-all : (n : ℕ) → Ended sheet end i → n ≡ length sheet / 32 → i ≤ n → n ≤ i → Ended sheet end (length sheet / 32)
+  ends-all n h hn a b = let same : i ≡ length sheet / 32 = omega arith in rw same at h
+
+pub none-ended : (sheet : List ℕ) → Ended sheet 0 0
+none-ended sheet = record { within = omega arith; none = λ j a b e q. absurd (omega arith) }

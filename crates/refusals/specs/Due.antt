@@ -1,6 +1,6 @@
 -- The parts that are due, as the code's stack holds them: an entry is three times the part's depth, and 0 for a type, 1 for a condition, 2
 -- for an operand. The entries below the height are due, the last of them first.
-use Prim.Native.Nat.{ℕ, zero, suc, _/_, _%_, _<_, _≤_}
+use Prim.Native.Nat.{ℕ, zero, suc, _-_, _/_, _%_, _<_, _≤_}
 use mathlib.Core.Path.{_≡_}
 use mathlib.Core.Bool.{true, false}
 use mathlib.Core.List.{List, [], _∷_}
@@ -42,6 +42,14 @@ pub record Sound (stack : List ℕ) (height : ℕ) : Type 0 where
   pub size : length stack ≡ 66
   pub deep : (j : ℕ) → j < height → j < getD stack j 0 / 3
   pub bounded : (j : ℕ) → j < height → getD stack j 0 / 3 ≤ 65
+
+-- a record of the kind is the first part that is due, and its own parts are of that number
+pub record Taken (stack : List ℕ) (height kind part : ℕ) : Type 0 where
+  pub sound : Sound stack height
+  pub some : height ≡ 0 → ⊥
+  pub fits : Kind.isPart (partAt (getD stack (height - 1) 0 % 3)) kind ≡ true
+  pub parts : part ≡ partNumber kind
+  pub small : part < 3
 
 -- a step among the parts that are due
 abbrev pub partStepOf : PartStep → List ℕ → Grammar.Step (List Due)

@@ -1,9 +1,10 @@
 -- The states of the grammar, as the code holds them.
 use Prim.Native.Nat.{ℕ}
 use mathlib.Core.Path.{_≡_}
-use mathlib.Core.Bool.{Bool, true, false, _||_}
+use mathlib.Core.Bool.{Bool, true, false, not, _||_}
 use mathlib.Core.List.{List, [], _∷_}
 use lib.Dec.{eqb}
+use Rattle.rules.specs.Words.{within}
 use Rattle.rules.specs.Kind
 use Rattle.rules.specs.Kind.{condition}
 use Rattle.rules.specs.Grammar as Grammar
@@ -82,6 +83,24 @@ inBody Body.Newtype item ds = Grammar.newtype (typeWith (isBits item) ds)
 abbrev pub typeIn : Body → TypeState → Grammar.State
 typeIn body t = inBody body (typeItem (t .bits)) (t .due)
 
+-- a record of the kind is one of a field list
+abbrev pub inFields : Body → ℕ → Bool
+inFields Body.Context kind = false
+inFields Body.Message kind = true
+inFields Body.Unbacked kind = false
+inFields Body.Backed kind = false
+inFields Body.Flags kind = false
+inFields Body.Outside kind = false
+inFields Body.Variant kind = not (within Kind.Variant Kind.Tombstone kind)
+inFields Body.Newtype kind = false
+
+-- the type of a message's field goes on with a type
+pub record GoesOn (body : Body) (item : Item) (height kind : ℕ) : Type 0 where
+  pub message : body ≡ Body.Message
+  pub typed : item ≡ Item.Typed
+  pub some : height ≡ 0 → ⊥
+  pub type : Kind.isType kind ≡ true
+
 unfoldable pub stateOf : State → List ℕ → Grammar.State
 stateOf s stack = inBody (s .body) (s .item) (dues stack (s .height))
 
@@ -91,7 +110,7 @@ movedTo item (PartStep.To height) = ItemStep.To item height
 movedTo item (PartStep.Fault why) = ItemStep.Fault why
 
 abbrev pub takenTo : Body → ItemStep → Step
-takenTo body (ItemStep.To item height) = Step.To (record { body = body; item = item; height = height })
+takenTo body (ItemStep.To item height) = Step.To body item height
 takenTo body (ItemStep.Fault why) = Step.Fault why
 
 -- a step in a field list, and a step of the machine
@@ -104,11 +123,11 @@ ItemSound (ItemStep.To item height) stack = Sound stack height
 ItemSound (ItemStep.Fault why) stack = Unit {0}
 
 abbrev pub stepOf : Step → List ℕ → Grammar.Step Grammar.State
-stepOf (Step.To s) stack = Grammar.to (stateOf s stack)
+stepOf (Step.To body item height) stack = Grammar.to (stateOf (record { body = body; item = item; height = height }) stack)
 stepOf (Step.Fault why) stack = Grammar.fault (numberOf why)
 
 abbrev pub StepSound : Step → List ℕ → Type 0
-StepSound (Step.To s) stack = Sound stack (s .height)
+StepSound (Step.To body item height) stack = Sound stack height
 StepSound (Step.Fault why) stack = Unit {0}
 
 -- whatever lies in the stack, with nothing due

@@ -7,13 +7,13 @@
 // The lengths are one array of 1024 numbers of 16 bits, 2048 bytes of the stack of `endless`. No function here calls itself.
 ghost use mathlib.Core.Path.{_≡_};
 ghost use mathlib.Core.Bool.{_&&_};
-ghost use Prim.Native.Nat.{_+_, _≤_, _<_};
+ghost use Prim.Native.Nat.{_+_, _/_, _≤_, _<_};
 ghost use lib.ListN.{length};
 ghost use Rattle.rules.specs.Record.{isOf};
 ghost use Rattle.rules.specs.Context as Context;
 ghost use Rattle.rules.specs.Refusals.{leadsNowhere};
 ghost use Rattle.names.specs.View.{viewAt, viewOf, contextBy};
-ghost use Rattle.refusals.specs.Pass.{verdictOf};
+ghost use Rattle.refusals.specs.Pass.{Ended, verdictOf};
 ghost use Rattle.refusals.specs.Turned.{placed, endlessBy};
 ghost use Rattle.refusals.specs.Lengths.{HasLength, Lengths, ChainLength};
 use crate::verdict::Verdict;
@@ -104,24 +104,30 @@ fn is_endless(
     requires { ⌜ Lengths (now table) (now sheet) (now lengths) × (i < n) ⌝ }
     ensures { λ r. ⌜ (r ≡ (isOf 1 4 (viewAt (now (sheet .entry)) i) && leadsNowhere (contextBy (now (table .entry)) (now (sheet .entry))) (viewOf (now (sheet .entry)) (i + 1) n))) × Lengths (now (table .entry)) (now (sheet .entry)) (now (lengths .exit)) ⌝ }
 {
-    if (sheet::kind(sheet, i) == kinds::DECLARATION) & (sheet::sub(sheet, i) == 4) {
-        if i + 1 < n {
-            return never_ends(sheet, table, lengths, i + 1);
-        }
+    if sheet::kind(sheet, i) != kinds::DECLARATION {
         return false;
+    }
+    if sheet::sub(sheet, i) != 4 {
+        return false;
+    }
+    if i + 1 < n {
+        return never_ends(sheet, table, lengths, i + 1);
     }
     false
 }
 
-// The first newtype whose chain never ends.
-pub fn endless(sheet: &[u8], table: &[u16; 5122]) -> Verdict
-    requires { ⌜ length (now sheet) ≤ 32768 ⌝ }
+// The first newtype whose chain never ends. The newtypes end at `end`.
+pub fn endless(sheet: &[u8], table: &[u16; 5122], end: usize) -> Verdict
+    requires { ⌜ (length (now sheet) ≤ 32768) × Ended (now sheet) end (length (now sheet) / 32) ⌝ }
     ensures { λ r. ⌜ verdictOf r ≡ endlessBy (now (table .entry)) (now (sheet .entry)) ⌝ }
 {
+    if end == 0 {
+        return Verdict::Accepted;
+    }
     let mut lengths = [0u16; 1024];
     let n = sheet::records(sheet);
     let mut i = 0;
-    while i < n {
+    while i < end {
         if is_endless(sheet, table, &mut lengths, i, n) {
             return Verdict::Refused {
                 refusal: Refusal::EndlessChain,

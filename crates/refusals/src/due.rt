@@ -3,7 +3,7 @@ ghost use mathlib.Core.Path.{_≡_};
 ghost use Prim.Native.Nat.{_<_};
 ghost use Rattle.rules.specs.Kind;
 ghost use Rattle.rules.specs.Grammar.{partStep, typeStep, lifted};
-ghost use Rattle.refusals.specs.Due.{bare, partAt, partNumber, dues, Sound, partStepOf, PartSound};
+ghost use Rattle.refusals.specs.Due.{bare, partAt, partNumber, dues, Sound, Taken, partStepOf, PartSound};
 ghost use Rattle.refusals.specs.States.{bitsAfter, typeWith};
 use crate::state::PartStep;
 use rules::Refusal;
@@ -33,7 +33,23 @@ fn part_of(kind: u8) -> u8
     2
 }
 
-// The record takes the place of the first part that is due, and its own parts are due before the others, one deeper.
+// The record is such a part: it takes the place of the first part that is due, and its own parts are due before the others, one deeper.
+fn taken(due: &mut [u8; 66], height: usize, kind: u8, part: u8) -> PartStep
+    requires { ⌜ Taken (now due) height kind part ⌝ }
+    ensures { λ r. ⌜ (partStepOf r (now (due .exit)) ≡ partStep (dues (now (due .entry)) height) (bare kind 0)) × PartSound r (now (due .exit)) ⌝ }
+{
+    let top = height - 1;
+    let depth = due[top] / 3;
+    if 64 < depth {
+        return PartStep::Fault(Refusal::TooDeep); // row 7
+    }
+    let deeper = 3 * (depth + 1) + part;
+    due[top] = deeper;
+    due[height] = deeper;
+    PartStep::To(top + sheet::part_count(kind) as usize)
+}
+
+// The first part that is due: the record, if it is such a part. A type's parts are types, so that their number is not asked for.
 pub fn part_step(due: &mut [u8; 66], height: usize, kind: u8) -> PartStep
     requires { ⌜ Sound (now due) height ⌝ }
     ensures { λ r. ⌜ (partStepOf r (now (due .exit)) ≡ partStep (dues (now (due .entry)) height) (bare kind 0)) × PartSound r (now (due .exit)) ⌝ }
@@ -41,19 +57,18 @@ pub fn part_step(due: &mut [u8; 66], height: usize, kind: u8) -> PartStep
     if height == 0 {
         return PartStep::Fault(Refusal::OutOfOrder); // row 6
     }
-    let top = height - 1;
-    let entry = due[top];
-    if !is_part(entry % 3, kind) {
+    let part = due[height - 1] % 3;
+    if part == 0 {
+        if sheet::is_type(kind) {
+            return taken(due, height, kind, 0);
+        }
         return PartStep::Fault(Refusal::OutOfOrder); // row 6
     }
-    let depth = entry / 3;
-    if 64 < depth {
-        return PartStep::Fault(Refusal::TooDeep); // row 7
+    if !is_part(part, kind) {
+        return PartStep::Fault(Refusal::OutOfOrder); // row 6
     }
-    let deeper = 3 * (depth + 1) + part_of(kind);
-    due[top] = deeper;
-    due[height] = deeper;
-    PartStep::To(top + sheet::part_count(kind) as usize)
+    let parts = part_of(kind);
+    taken(due, height, kind, parts)
 }
 
 // A type: a bit name where one may come, or the first part that is due.

@@ -50,8 +50,9 @@ fn typed_step(due: &mut [u8; 66], bits: bool, height: usize, kind: u8) -> ItemSt
     requires { ⌜ Sound (now due) height ⌝ }
     ensures { λ r. ⌜ (itemStepOf r (now (due .exit)) ≡ lifted (λ t. field (typed t)) (typeStep (typeWith bits (dues (now (due .entry)) height)) (bare kind 0))) × ItemSound r (now (due .exit)) ⌝ }
 {
+    let step = type_step(due, bits, height, kind);
     let item = after_type(kind);
-    moved(item, type_step(due, bits, height, kind))
+    moved(item, step)
 }
 
 // A field's type begins: one is due, of depth 1.
@@ -108,7 +109,10 @@ fn type_or_condition(due: &mut [u8; 66], bits: bool, height: usize, kind: u8) ->
     requires { ⌜ Sound (now due) height ⌝ }
     ensures { λ r. ⌜ (itemStepOf r (now (due .exit)) ≡ lifted field (fieldStep (typed (typeWith bits (dues (now (due .entry)) height))) (bare kind 0))) × ItemSound r (now (due .exit)) ⌝ }
 {
-    if (height == 0) & (kind != kinds::BIT_NAME) {
+    if kind == kinds::BIT_NAME {
+        return typed_step(due, bits, height, kind);
+    }
+    if height == 0 {
         return condition_begins(due, kind);
     }
     typed_step(due, bits, height, kind)

@@ -1,4 +1,5 @@
 // Whether a sheet and a names text are accepted, and if not, by which row at which record.
+mod bytes;
 mod chain;
 mod due;
 mod fields;
@@ -9,7 +10,5 @@ mod rows;
 mod state;
 mod verdict;
 
-pub use own::Own;
-pub use own::own_fault;
 pub use rows::accept;
 pub use verdict::Verdict;

@@ -1,11 +1,12 @@
 // Which record may follow those before: a step of the grammar, and whether the sheet may end.
 ghost use mathlib.Core.Path.{_≡_};
 ghost use Prim.Native.Nat.{ℕ};
+ghost use mathlib.Core.Bool.{true, false};
 ghost use mathlib.Core.List.{List, []};
 ghost use Rattle.rules.specs.Words.{within};
 ghost use Rattle.rules.specs.Grammar as Grammar;
 ghost use Rattle.refusals.specs.Due.{bare, dues, Sound};
-ghost use Rattle.refusals.specs.States.{isBits, typeWith, typeIn, inBody, fieldListOf, enumOf, stateOf, startState, movedTo, takenTo, stepOf, StepSound, Leads};
+ghost use Rattle.refusals.specs.States.{isBits, typeWith, typeIn, inBody, inFields, GoesOn, fieldListOf, enumOf, stateOf, startState, movedTo, takenTo, stepOf, StepSound, Leads};
 use crate::due::type_step;
 use crate::fields::after_type;
 use crate::fields::field_list_step;
@@ -55,22 +56,22 @@ fn type_due(due: &mut [u8; 66], body: Body) -> Step
     ensures { λ r. ⌜ (stepOf r (now (due .exit)) ≡ Grammar.to (typeIn body Grammar.typeDue)) × StepSound r (now (due .exit)) ⌝ }
 {
     due[0] = 3;
-    Step::To(State {
+    Step::To {
         body,
         item: Item::Typed,
         height: 1,
-    })
+    }
 }
 
 // A body between its items.
 fn between(body: Body) -> Step
     ensures { λ r. ⌜ Leads r (Grammar.to (inBody body Item.Between [])) ⌝ }
 {
-    Step::To(State {
+    Step::To {
         body,
         item: Item::Between,
         height: 0,
-    })
+    }
 }
 
 // The body that a head opens.
@@ -112,7 +113,7 @@ fn settled(body: Body, item: Item, step: PartStep) -> Step
     ensures { λ r. ⌜ r ≡ takenTo body (movedTo item step) ⌝ }
 {
     match step {
-        PartStep::To(height) => Step::To(State { body, item, height }),
+        PartStep::To(height) => Step::To { body, item, height },
         PartStep::Fault(why) => Step::Fault(why),
     }
 }
@@ -163,7 +164,7 @@ fn within_body(body: Body, step: ItemStep) -> Step
     ensures { λ r. ⌜ r ≡ takenTo body step ⌝ }
 {
     match step {
-        ItemStep::To { item, height } => Step::To(State { body, item, height }),
+        ItemStep::To { item, height } => Step::To { body, item, height },
         ItemStep::Fault(why) => Step::Fault(why),
     }
 }
@@ -221,31 +222,36 @@ fn outside_step(kind: u8) -> Step
     Step::Fault(Refusal::OutOfOrder) // row 6
 }
 
-// A union in a variant: an item where the variant's fields may end, or the fields go on.
-fn variant_step(due: &mut [u8; 66], item: Item, height: usize, kind: u8) -> Step
-    requires { ⌜ Sound (now due) height ⌝ }
-    ensures { λ r. ⌜ (stepOf r (now (due .exit)) ≡ Grammar.lifted Grammar.union (Grammar.unionStep (Grammar.variant (fieldListOf item (dues (now (due .entry)) height))) (bare kind 0))) × StepSound r (now (due .exit)) ⌝ }
+// A union in a variant: an item, where the variant's fields may end.
+fn variant_item(item: Item, height: usize, kind: u8) -> Step
+    requires { ⌜ within 14 15 kind ≡ true ⌝ }
+    ensures { λ r. ⌜ ((stack : List ℕ) → Sound stack height → (stepOf r stack ≡ Grammar.lifted Grammar.union (Grammar.unionStep (Grammar.variant (fieldListOf item (dues stack height))) (bare kind 0))) × StepSound r stack) ⌝ }
 {
-    if starts_item(kind) {
-        if is_done(item, height) {
-            return union_item(kind);
-        }
-        return Step::Fault(Refusal::OutOfOrder); // row 6
+    if is_done(item, height) {
+        return union_item(kind);
     }
-    within_body(Body::Variant, field_list_step(due, item, height, kind))
+    Step::Fault(Refusal::OutOfOrder) // row 6
 }
 
-// A message: its field list goes on.
-fn message_step(due: &mut [u8; 66], item: Item, height: usize, kind: u8) -> Step
-    requires { ⌜ Sound (now due) height ⌝ }
-    ensures { λ r. ⌜ (stepOf r (now (due .exit)) ≡ Grammar.lifted Grammar.message (Grammar.fieldListStep (fieldListOf item (dues (now (due .entry)) height)) (bare kind 0))) × StepSound r (now (due .exit)) ⌝ }
+// Whether a record of the kind is one of a field list: in a message each, in a variant each that begins no item of the union.
+fn in_fields(body: Body, kind: u8) -> bool
+    ensures { λ r. ⌜ r ≡ inFields body kind ⌝ }
 {
-    within_body(Body::Message, field_list_step(due, item, height, kind))
+    match body {
+        Body::Context => false,
+        Body::Message => true,
+        Body::Unbacked => false,
+        Body::Backed => false,
+        Body::Flags => false,
+        Body::Outside => false,
+        Body::Variant => !starts_item(kind),
+        Body::Newtype => false,
+    }
 }
 
-// The state after a record of the kind and the sub, or a fault by row 6 or 7. The stack is 66 bytes of the caller's.
-pub fn step(due: &mut [u8; 66], s: State, kind: u8, sub: u8) -> Step
-    requires { ⌜ Sound (now due) (s .height) ⌝ }
+// A step in no field list, and so not in a message.
+fn other_step(due: &mut [u8; 66], s: State, kind: u8, sub: u8) -> Step
+    requires { ⌜ Sound (now due) (s .height) × (inFields (s .body) kind ≡ false) ⌝ }
     ensures { λ r. ⌜ (stepOf r (now (due .exit)) ≡ Grammar.step (stateOf s (now (due .entry))) (bare kind sub)) × StepSound r (now (due .exit)) ⌝ }
 {
     let body = s.body;
@@ -253,12 +259,70 @@ pub fn step(due: &mut [u8; 66], s: State, kind: u8, sub: u8) -> Step
     let height = s.height;
     match body {
         Body::Context => context_step(due, item, height, kind, sub),
-        Body::Message => message_step(due, item, height, kind),
+        Body::Message => Step::Fault(Refusal::OutOfOrder),
         Body::Unbacked => enum_step(false, kind),
         Body::Backed => enum_step(true, kind),
         Body::Flags => flags_step(kind),
         Body::Outside => outside_step(kind),
-        Body::Variant => variant_step(due, item, height, kind),
+        Body::Variant => variant_item(item, height, kind),
         Body::Newtype => inner_step(due, Body::Newtype, item, height, kind),
     }
+}
+
+// Whether the body is a message.
+fn is_message(body: Body) -> bool
+    ensures { λ r. ⌜ (r ≡ true → body ≡ Body.Message) ⌝ }
+{
+    match body {
+        Body::Context => false,
+        Body::Message => true,
+        Body::Unbacked => false,
+        Body::Backed => false,
+        Body::Flags => false,
+        Body::Outside => false,
+        Body::Variant => false,
+        Body::Newtype => false,
+    }
+}
+
+// Whether the item is a type where no bit name may come next.
+fn is_typed(item: Item) -> bool
+    ensures { λ r. ⌜ (r ≡ true → item ≡ Item.Typed) ⌝ }
+{
+    match item {
+        Item::Between => false,
+        Item::Opened => false,
+        Item::Annotated => false,
+        Item::Typed => true,
+        Item::BitNames => false,
+        Item::Conditioned => false,
+    }
+}
+
+// Whether the type of a message's field goes on with a type.
+fn type_goes_on(body: Body, item: Item, height: usize, kind: u8) -> bool
+    ensures { λ r. ⌜ (r ≡ true → GoesOn body item height kind) ⌝ }
+{
+    is_message(body) & is_typed(item) & (height != 0) & sheet::is_type(kind)
+}
+
+// The state after a record of the kind and the sub, or a fault by row 6 or 7. The stack is 66 bytes of the caller's.
+//
+// The most common step comes first, without going by the bodies and the items. A field list is asked for in one place, so that its step is
+// compiled into the pass.
+pub fn step(due: &mut [u8; 66], s: State, kind: u8, sub: u8) -> Step
+    requires { ⌜ Sound (now due) (s .height) ⌝ }
+    ensures { λ r. ⌜ (stepOf r (now (due .exit)) ≡ Grammar.step (stateOf s (now (due .entry))) (bare kind sub)) × StepSound r (now (due .exit)) ⌝ }
+{
+    let body = s.body;
+    let item = s.item;
+    let height = s.height;
+    if type_goes_on(body, item, height, kind) {
+        let next = after_type(kind);
+        return settled(body, next, type_step(due, false, height, kind));
+    }
+    if in_fields(body, kind) {
+        return within_body(body, field_list_step(due, item, height, kind));
+    }
+    other_step(due, s, kind, sub)
 }

@@ -1,14 +1,15 @@
 // The pass over the records: the first fault by rows 3 to 8.
 ghost use mathlib.Core.Path.{_≡_};
 ghost use mathlib.Core.Bool.{_&&_};
-ghost use Prim.Native.Nat.{_<_, _≤_};
+ghost use Prim.Native.Nat.{_+_, _/_, _<_, _≤_};
 ghost use lib.ListN.{length};
 ghost use lib.Dec.{eqb};
 ghost use Rattle.rules.specs.Record.{recordBytes, decode, kindIn, subIn, records};
 ghost use Rattle.rules.specs.Grammar as Grammar;
 ghost use Rattle.refusals.specs.Due.{bare, Sound};
 ghost use Rattle.refusals.specs.States.{stateOf, stepOf, StepSound};
-ghost use Rattle.refusals.specs.Pass.{isSecond, orSecond, declaredTo, recordStepBy, firstFaultBy, verdictOf};
+ghost use Rattle.refusals.specs.Pass.{isSecond, orSecond, declaredTo, recordStepBy, firstFaultBy, Ended, passedOf, EndSound};
+use crate::bytes::byte;
 use crate::machine::may_end;
 use crate::machine::start;
 use crate::machine::step;
@@ -16,7 +17,6 @@ use crate::own::Own;
 use crate::own::own_fault;
 use crate::state::State;
 use crate::state::Step;
-use crate::verdict::Verdict;
 use rules::Refusal;
 use sheet::kinds;
 
@@ -28,30 +28,34 @@ fn is_second(table: &[u16; 5122], i: usize) -> bool
     names::declaration(table, i) as usize != i + 1
 }
 
-// The step, or row 8 for a second declaration.
-fn declared(second: bool, step: Step) -> Step
-    ensures { λ r. ⌜ r ≡ declaredTo second step ⌝ }
+// The step at record `i`, of that kind, or row 8 for a second declaration.
+fn declared(table: &[u16; 5122], i: usize, kind: u8, step: Step) -> Step
+    requires { ⌜ i < 1024 ⌝ }
+    ensures { λ r. ⌜ r ≡ declaredTo (eqb kind 1 && isSecond (now (table .entry)) i) step ⌝ }
 {
     match step {
         Step::Fault(why) => Step::Fault(why),
-        Step::To(s) => {
-            if second {
+        Step::To { body, item, height } => {
+            if kind != kinds::DECLARATION {
+                return Step::To { body, item, height };
+            }
+            if is_second(table, i) {
                 return Step::Fault(Refusal::SecondDeclaration); // row 8
             }
-            Step::To(s)
+            Step::To { body, item, height }
         }
     }
 }
 
-// Rows 6 to 8 at record `i`.
+// Rows 6 to 8 at record `i`. Only a declaration and a head are asked for their sub, and both have one.
 fn grammar_step(sheet: &[u8], table: &[u16; 5122], due: &mut [u8; 66], s: State, i: usize) -> Step
-    requires { ⌜ Sound (now due) (s .height) × (i < 1024) ⌝ }
+    requires { ⌜ Sound (now due) (s .height) × (i < 1024) × (i < length (now sheet) / 32) ⌝ }
     ensures { λ r. ⌜ (stepOf r (now (due .exit)) ≡ orSecond (eqb (kindIn (recordBytes (now (sheet .entry)) i)) 1 && isSecond (now (table .entry)) i) (Grammar.step (stateOf s (now (due .entry))) (bare (kindIn (recordBytes (now (sheet .entry)) i)) (subIn (recordBytes (now (sheet .entry)) i))))) × StepSound r (now (due .exit)) ⌝ }
 {
     let kind = sheet::kind(sheet, i);
-    let sub = sheet::sub(sheet, i);
-    let second = (kind == kinds::DECLARATION) & is_second(table, i);
-    declared(second, step(due, s, kind, sub))
+    let sub = byte(sheet, i, 1);
+    let next = step(due, s, kind, sub);
+    declared(table, i, kind, next)
 }
 
 // Rows 3 to 8 at record `i`, the lowest number first.
@@ -63,7 +67,7 @@ fn record_step(
     s: State,
     i: usize,
 ) -> Step
-    requires { ⌜ Sound (now due) (s .height) × (i < 1024) ⌝ }
+    requires { ⌜ Sound (now due) (s .height) × (i < 1024) × (i < length (now sheet) / 32) ⌝ }
     ensures { λ r. ⌜ (stepOf r (now (due .exit)) ≡ recordStepBy (isSecond (now (table .entry)) i) (stateOf s (now (due .entry))) (decode (now (names .entry)) (recordBytes (now (sheet .entry)) i))) × StepSound r (now (due .exit)) ⌝ }
 {
     match own_fault(sheet, names, i) {
@@ -72,33 +76,55 @@ fn record_step(
     }
 }
 
+// What the pass finds: the first fault, or where the newtypes end.
+pub enum Passed {
+    Refused { refusal: Refusal, index: u32 },
+    Accepted(usize),
+}
+
+// Where the newtypes end that come before record `i` or are record `i`.
+fn newtypes_end(sheet: &[u8], end: usize, i: usize) -> usize
+    requires { ⌜ Ended (now sheet) end i × (i < 1024) ⌝ }
+    ensures { λ r. ⌜ Ended (now (sheet .entry)) r (i + 1) ⌝ }
+{
+    if sheet::kind(sheet, i) != kinds::DECLARATION {
+        return end;
+    }
+    if sheet::sub(sheet, i) != 4 {
+        return end;
+    }
+    i + 1
+}
+
 // The first fault by rows 3 to 8, and row 6 for an early end. The stack is 66 bytes of this function's.
-pub fn first_fault(sheet: &[u8], names: &[u8], table: &[u16; 5122]) -> Verdict
+pub fn first_fault(sheet: &[u8], names: &[u8], table: &[u16; 5122]) -> Passed
     requires { ⌜ length (now sheet) ≤ 32768 ⌝ }
-    ensures { λ r. ⌜ verdictOf r ≡ firstFaultBy (isSecond (now (table .entry))) Grammar.start 0 (records (now (sheet .entry)) (now (names .entry))) ⌝ }
+    ensures { λ r. ⌜ (passedOf r ≡ firstFaultBy (isSecond (now (table .entry))) Grammar.start 0 (records (now (sheet .entry)) (now (names .entry)))) × EndSound r (now (sheet .entry)) ⌝ }
 {
     let mut due = [0u8; 66];
     let n = sheet::records(sheet);
     let mut s = start();
     let mut i = 0;
+    let mut end = 0;
     while i < n {
         match record_step(sheet, names, table, &mut due, s, i) {
             Step::Fault(why) => {
-                return Verdict::Refused {
+                return Passed::Refused {
                     refusal: why,
                     index: i as u32,
                 };
             }
-            Step::To(t) => {
-                s = t;
+            Step::To { body, item, height } => {
+                s = State { body, item, height };
+                end = newtypes_end(sheet, end, i);
                 i = i + 1;
             }
         }
     }
     if may_end(s) {
-        return Verdict::Accepted;
+        return Passed::Accepted(end);
     }
-    Verdict::Refused {
+    Passed::Refused {
         refusal: Refusal::OutOfOrder,
         index: n as u32,
     } // row 6

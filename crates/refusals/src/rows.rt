@@ -5,6 +5,7 @@ ghost use Rattle.names.specs.NameTable.{nameTable};
 ghost use Rattle.refusals.specs.Pass.{verdictOf};
 ghost use Rattle.refusals.specs.Turned.{refusalBy};
 use crate::chain::endless;
+use crate::pass::Passed;
 use crate::pass::first_fault;
 use crate::verdict::Verdict;
 use rules::Refusal;
@@ -27,8 +28,8 @@ fn refuse(sheet: &[u8], names: &[u8], table: &[u16; 5122]) -> Verdict
         }; // row 2
     }
     match first_fault(sheet, names, table) {
-        Verdict::Refused { refusal, index } => Verdict::Refused { refusal, index },
-        Verdict::Accepted => endless(sheet, table), // row 9
+        Passed::Refused { refusal, index } => Verdict::Refused { refusal, index },
+        Passed::Accepted(end) => endless(sheet, table, end), // row 9
     }
 }
 

@@ -49,6 +49,10 @@ pub enum ItemStep {
 
 // A step of the machine.
 pub enum Step {
-    To(State),
+    To {
+        body: Body,
+        item: Item,
+        height: usize,
+    },
     Fault(Refusal),
 }

@@ -1,11 +1,11 @@
--- `part_step` takes the top of the stack for the first part due: its two stores are the record's parts, of which as many are due as there are.
-use native.Mathlib.Omega.{arith}
+-- `part_step` asks whether the record is the part at the top of the stack.
+use mathlib.Core.Path.{refl}
 use borrow.Author.Needs.{needs}
-use Rattle.refusals.proofs.PartSteps.{step-none, step-other, step-deep, part-taken, top-within, height-within}
+use Rattle.refusals.proofs.PartSteps.{step-none, type-taken, type-other, other-taken, part-other, top-within}
 use Rattle.refusals.proofs.due.part_step.Statement.{statement}
 use Rattle.refusals.proofs.due.part_step.Tie as tie
 
-ruleset laws = (needs, step-none, step-other, step-deep, top-within, height-within)
+ruleset laws = (needs, step-none, top-within)
 
 pub part-step-spec : {M : Type 1} → statement M
 part-step-spec =
@@ -15,18 +15,19 @@ part-step-spec =
     (λ c. search needs)
     (λ c. search laws)
     (λ c κs. search needs)
-    (λ c. search laws)
-    (λ c. search laws)
+    (λ c κs.
+    let asked = c .before .before .before in
+    type-taken _ _ _ _ (asked .before .before .before .pre) (asked .before .before .if1 .left) refl (asked .if2 .taken) _ (c .before .before .is-type .ensures) (c .before .if3 .taken))
     (λ c. search needs)
-    (λ c. search needs)
-    (λ c κs. search needs)
-    (λ c. search needs)
-    (λ c. search laws)
-    (λ c. search laws)
-    (λ c κs. search needs)
-    (λ c. search needs)
-    (λ c. omega (arith, height-within _ _ (c .before .before .before .before .before .before .before .pre)))
     (λ c.
+    let asked = c .before .before in
+    (type-other _ _ _ _ (asked .before .before .before .pre) (asked .before .before .if1 .left) refl (asked .if2 .taken) _ (c .before .is-type .ensures) (c .if3 .left), tt))
+    (λ c κs. search needs)
+    (λ c.
+    let asked = c .before .before in
+    (part-other _ _ _ _ (asked .before .before .before .pre) (asked .before .before .if1 .left) refl _ (c .before .is-part .ensures) (c .if4 .taken), tt))
+    (λ c κs. search needs)
+    (λ c κs.
     let asked = c .before .before .before .before in
-    part-taken _ _ _ _ _ _ (search needs) (asked .before .before .before .pre) (asked .before .before .if1 .left) (asked .is-part .ensures)
-    (c .before .before .before .if2 .left) (c .before .before .if3 .left) (c .before .part-of .ensures) (c .part-count .ensures)))
+    other-taken _ _ _ _ (asked .before .before .before .pre) (asked .before .before .if1 .left) refl _ (c .before .before .before .is-part .ensures) _ (c .before .before .if4 .left) (c .before .part-of .ensures))
+    (λ c. search needs))

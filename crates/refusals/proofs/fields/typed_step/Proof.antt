@@ -14,5 +14,5 @@ typed-step-spec =
     (λ c κs. search laws)
     (λ c κs. search laws)
     (λ c.
-    typed-moved (c .before .before .before .before .args .kind) _ (c .before .type-step .result) (c .moved .result) _ _
-    (c .before .before .before .after-type .ensures) (c .before .type-step .ensures) (c .moved .ensures)))
+    typed-moved (c .before .before .before .before .args .kind) _ (c .before .before .type-step .result) (c .moved .result) _ _
+    (c .before .after-type .ensures) (c .before .before .type-step .ensures) (c .moved .ensures)))

@@ -1,7 +1,7 @@
--- `step` goes by the bodies of the definition.
+-- A type that goes on and a step of the field list are the body's, and every other is `other_step`'s.
 use borrow.Author.Needs.{needs}
-use mathlib.Core.Path.{_∙_}
-use Rattle.refusals.proofs.Bodies.{leads-at, in-context, in-message, in-unbacked, in-backed, in-flags, in-outside, in-variant, in-newtype}
+use mathlib.Core.Path.{_∙_, sym}
+use Rattle.refusals.proofs.Bodies.{fields-stepped, type-stepped}
 use Rattle.refusals.proofs.machine.step.Statement.{statement}
 use Rattle.refusals.proofs.machine.step.Tie as tie
 
@@ -9,27 +9,23 @@ pub step-spec : {M : Type 1} → statement M
 step-spec =
     tie.close
     (tie.spec
-    (λ c. search needs)
     (λ c κs. search needs)
-    (λ c. search needs)
     (λ c κs. search needs)
-    (λ c. search needs)
     (λ c κs. search needs)
-    (λ c. search needs)
     (λ c κs. search needs)
-    (λ c. search needs)
+    (λ c.
+    let next = c .before .before .before in
+    let asked = next .before .before in
+    type-stepped (asked .before .args .s) _ _ _ (asked .type-goes-on .ensures (next .before .if1 .taken)) _ (c .before .type-step .result) (c .settled .result) _
+    (next .after-type .ensures) (c .before .type-step .ensures) (c .settled .ensures))
     (λ c κs. search needs)
-    (λ c. search needs)
     (λ c κs. search needs)
-    (λ c. search needs)
     (λ c κs. search needs)
-    (λ c. search needs)
-    (λ c κs. search needs)
-    (λ c. (c .context-step .ensures .0 ∙ in-context (c .before .before .before .before .args .s) _ _ _ (c .before .before .enum-told .given .1), c .context-step .ensures .1))
-    (λ c. (c .message-step .ensures .0 ∙ in-message (c .before .before .before .before .args .s) _ _ _ (c .before .before .enum-told2 .given .1), c .message-step .ensures .1))
-    (λ c. leads-at (c .enum-step .result) _ _ _ _ (in-unbacked (c .before .before .before .args .s) _ _ _ (c .before .enum-told3 .given .1)) (c .before .before .before .pre) (c .enum-step .ensures))
-    (λ c. leads-at (c .enum-step2 .result) _ _ _ _ (in-backed (c .before .before .before .args .s) _ _ _ (c .before .enum-told4 .given .1)) (c .before .before .before .pre) (c .enum-step2 .ensures))
-    (λ c. leads-at (c .flags-step .result) _ _ _ _ (in-flags (c .before .before .before .args .s) _ _ _ (c .before .enum-told5 .given .1)) (c .before .before .before .pre) (c .flags-step .ensures))
-    (λ c. leads-at (c .outside-step .result) _ _ _ _ (in-outside (c .before .before .before .args .s) _ _ _ (c .before .enum-told6 .given .1)) (c .before .before .before .pre) (c .outside-step .ensures))
-    (λ c. (c .variant-step .ensures .0 ∙ in-variant (c .before .before .before .before .args .s) _ _ _ (c .before .before .enum-told7 .given .1), c .variant-step .ensures .1))
-    (λ c. (c .inner-step .ensures .0 ∙ in-newtype (c .before .before .before .before .args .s) _ _ _ (c .before .before .enum-told8 .given .1), c .inner-step .ensures .1)))
+    (λ c.
+    let asked = c .before .before .before .before in
+    fields-stepped (asked .before .before .before .args .s) _ _ _ (c .before .field-list-step .result) (c .within-body .result) _
+    (sym (asked .in-fields .ensures) ∙ c .before .before .before .if2 .taken) (c .before .field-list-step .ensures) (c .within-body .ensures))
+    (λ c κs.
+    let asked = c .before .before in
+    (asked .before .before .before .pre, sym (asked .in-fields .ensures) ∙ c .before .if2 .left))
+    (λ c. search needs))

@@ -9,18 +9,19 @@ use Rattle.rules.specs.Record.{records}
 use Rattle.rules.specs.Grammar as Grammar
 use Rattle.refusals.specs.Due.{Sound}
 use Rattle.refusals.specs.States.{stateOf}
-use Rattle.refusals.specs.Pass.{isSecond, firstFaultBy}
-use Rattle.refusals.proofs.Passes.{pass-fault, pass-again, pass-done, pass-early, pass-starts, starts-sound, fault-found, state-found, sound-found, count-below, count-reached}
+use Rattle.refusals.specs.Pass.{isSecond, firstFaultBy, Ended}
+use Rattle.refusals.proofs.Passes.{pass-fault, pass-again, pass-done, pass-early, pass-starts, starts-sound, fault-found, state-found, sound-found, count-below, count-reached, none-ended, ends-all}
 use Rattle.refusals.proofs.pass.first_fault.Statement.{statement}
 use Rattle.refusals.proofs.pass.first_fault.Tie as tie
 
 abbrev Inv-loop : tie.InvT-loop
-Inv-loop sheet names table due₀ n s₀ i₀ due s i =
+Inv-loop sheet names table due₀ n s₀ i₀ end₀ due s i end =
     (n ≡ length sheet / 32) × (i ≤ n) × Sound due (s .height)
     × (firstFaultBy (isSecond table) (stateOf s due) i (drop i (records sheet names)) ≡ firstFaultBy (isSecond table) Grammar.start 0 (records sheet names))
+    × Ended sheet end i
 
 abbrev μ-loop : tie.MeasureT-loop
-μ-loop sheet names table due₀ n s₀ i₀ due s i = n - i
+μ-loop sheet names table due₀ n s₀ i₀ end₀ due s i end = n - i
 
 pub first-fault-spec : {M : Type 1} → statement M
 first-fault-spec =
@@ -30,37 +31,50 @@ first-fault-spec =
     μ-loop
     (λ c κs. search needs)
     (λ c κs. search needs)
-    (λ c. (c .before .records .ensures, search needs, starts-sound _ (c .start .ensures), pass-starts _ _ _ _ _ (c .start .ensures)))
-    (λ c κs. (c .before .before .loop .inv .2, omega arith))
+    (λ c. (c .before .records .ensures, search needs, starts-sound _ (c .start .ensures), pass-starts _ _ _ _ _ (c .start .ensures), none-ended _))
+    (λ c κs.
+    let loop = c .before .before .loop in
+    (loop .inv .2, omega arith, count-below _ _ _ (loop .inv .0) (c .before .loop-test .taken)))
     (λ c. search needs)
     (λ c. omega arith)
     (λ c.
     let turn = c .before .before .before .before .before in
     let loop = turn .before .loop in
-    let step = c .before .before .before .record-step in
-    pass-fault _ _ _ _ _ _ (loop .inv .3) _ (count-below _ _ _ (loop .inv .0) (turn .loop-test .taken))
-    (fault-found (step .result) _ _ (step .ensures) _ (c .before .why .given .1)))
+    let step = c .before .before .before .record-step in (
+      pass-fault _ _ _ _ _ _ (loop .inv .3) _ (count-below _ _ _ (loop .inv .0) (turn .loop-test .taken))
+          (fault-found (step .result) _ _ (step .ensures) _ (c .before .why .given .1)),
+      tt,
+    ))
     (λ c. search needs)
+    (λ c κs.
+    let turn = c .before .before .before .before .before in
+    (turn .before .loop .inv .4, omega arith))
     (λ c. omega arith)
     (λ c. omega arith)
     (λ c.
-    let turn = c .before .before .before .before .before in
+    let told = c .before in
+    let turn = told .before .before .before .before .before in
     let loop = turn .before .loop in
-    let step = c .before .before .before .record-step in
-    let taken = c .before .t .given .1 in (
+    let step = told .before .before .before .record-step in
+    let taken = told .before .body .given .1 in (
       loop .inv .0,
       omega arith,
-      sound-found (step .result) _ _ (step .ensures) _ taken,
+      sound-found (step .result) _ _ (step .ensures) _ _ _ taken,
       pass-again _ _ _ _ _ _ (loop .inv .3) _ (count-below _ _ _ (loop .inv .0) (turn .loop-test .taken))
-          (state-found (step .result) _ _ (step .ensures) _ taken),
+          (state-found (step .result) _ _ (step .ensures) _ _ _ taken),
+      c .newtypes-end .ensures,
     ))
     (λ c κs. search needs)
     (λ c.
-    let loop = c .before .before .before .loop in
-    pass-done _ _ _ _ _ _ (loop .inv .3) _ (count-reached _ _ _ (loop .inv .0) (c .before .before .loop-test .left))
-    (c .before .may-end .ensures (loop .due)) (c .if1 .taken))
+    let loop = c .before .before .before .loop in (
+      pass-done _ _ _ _ _ _ (loop .inv .3) _ (count-reached _ _ _ (loop .inv .0) (c .before .before .loop-test .left))
+          (c .before .may-end .ensures (loop .due)) (c .if1 .taken),
+      ends-all _ _ _ _ (loop .inv .4) (loop .inv .0) (loop .inv .1) (c .before .before .loop-test .left),
+    ))
     (λ c. omega arith)
     (λ c.
-    let loop = c .before .before .before .loop in
-    pass-early _ _ _ _ _ _ (loop .inv .3) _ _ (count-reached _ _ _ (loop .inv .0) (c .before .before .loop-test .left)) (loop .inv .1) (loop .inv .0)
-    (c .before .may-end .ensures (loop .due)) (c .if1 .left)))
+    let loop = c .before .before .before .loop in (
+      pass-early _ _ _ _ _ _ (loop .inv .3) _ _ (count-reached _ _ _ (loop .inv .0) (c .before .before .loop-test .left)) (loop .inv .1) (loop .inv .0)
+          (c .before .may-end .ensures (loop .due)) (c .if1 .left),
+      tt,
+    )))

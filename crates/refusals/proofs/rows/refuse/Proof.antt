@@ -1,7 +1,7 @@
 -- `refuse` asks the rows in turn and answers with the first that is met.
 use borrow.Author.Needs.{needs}
 use Rattle.rules.proofs.AcceptedSheet.{short-sheet}
-use Rattle.refusals.proofs.InTurn.{row-1, row-2, rows-3-to-8, row-9}
+use Rattle.refusals.proofs.InTurn.{row-1, row-2, rows-3-to-8, row-9, ended-found}
 use Rattle.refusals.proofs.rows.refuse.Statement.{statement}
 use Rattle.refusals.proofs.rows.refuse.Tie as tie
 
@@ -14,11 +14,14 @@ refuse-spec =
     (λ c κs. short-sheet (c .before .before .before .before .args .sheet .now) (c .before .if1 .left))
     (λ c. search needs)
     (λ c. search needs)
-    (λ c κs. short-sheet (c .before .before .before .before .before .before .before .args .sheet .now) (c .before .before .before .before .if1 .left))
+    (λ c κs.
+    let passed = c .before .before .before in
+    let short = passed .before .before in
+    (short-sheet (short .before .before .before .args .sheet .now) (short .if1 .left), ended-found (passed .first-fault .result) _ _ (passed .first-fault .ensures .1) (c .before .end .given .1)))
     (λ c.
-    rows-3-to-8 _ _ _ (c .before .before .before .before .before .if1 .left) (c .before .before .before .before .if2 .left)
-    (c .before .before .before .first-fault .result) (c .before .before .before .first-fault .ensures) _ _ (c .before .refusal .given .1))
+    let passed = c .before .before .before in
+    rows-3-to-8 _ _ _ (passed .before .before .if1 .left) (passed .before .if2 .left) (passed .first-fault .result) (passed .first-fault .ensures .0) _ _ (c .before .refusal .given .1))
     (λ c.
-    row-9 _ _ _ (c .before .before .before .before .before .if1 .left) (c .before .before .before .before .if2 .left)
-    (c .before .before .before .first-fault .result) (c .before .before .before .first-fault .ensures) _ (c .before .enum-told .given .1)
+    let passed = c .before .before .before .before in
+    row-9 _ _ _ (passed .before .before .if1 .left) (passed .before .if2 .left) (passed .first-fault .result) (passed .first-fault .ensures .0) _ _ (c .before .before .end .given .1)
     (c .endless .ensures)))
