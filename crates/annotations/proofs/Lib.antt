@@ -1,6 +1,7 @@
 pub mod Views
 pub mod WordCodes
 pub mod FoundSteps
+pub mod Chains
 pub mod Repeats
 pub mod Reasons
 pub mod FirstWith

@@ -1,10 +1,11 @@
 -- Rule 22 record by record: the annotations before a record are those that the definition has met, the last first, so a scan back from
 -- the record asks them all.
-use Prim.Native.Nat.{ℕ, suc, _+_, _-_, _≤_, _<_}
-use mathlib.Core.Path.{_≡_, refl, _∙_, sym}
+use Prim.Native.Nat.{ℕ, zero, suc, _+_, _-_, _%_, _≤_, _<_}
+use mathlib.Core.Path.{_≡_, refl, _∙_, sym, ap}
 use mathlib.Core.Bool.{Bool, true, false}
 use mathlib.Core.List.{List, [], _∷_, _++_}
 use native.Mathlib.Omega.{arith}
+use lib.ListN.{getD, set}
 use borrow.Author.Tests.{eq-eqb, ne-eqb}
 use Rattle.rules.specs.declared.span.Span.{Span}
 use Rattle.rules.specs.declared.violation.Violation.{Violation}
@@ -16,7 +17,9 @@ use Rattle.rules.specs.Annotations.{annotationsOf, duplicateAnnotations}
 use Rattle.names.specs.View.{viewAt, viewOf, contextBy, entryOf, idPart, codePart}
 use Rattle.diagnostic.specs.Push.{State, pushIf, pushFound}
 use Rattle.annotations.specs.AnnotationAt.{annotationAt}
-use Rattle.annotations.specs.Earlier.{earlierOf, earlier, repeatsAt}
+use Rattle.annotations.specs.Chains.{hasKey, Chained}
+use Rattle.annotations.specs.Earlier.{isAnnotation, earlierOf, earlier, repeatsAt}
+use Rattle.annotations.proofs.Chains.{chained-add}
 use Rattle.annotations.proofs.Views.{is-annotation, is-other, annotations-next, annotations-other, annotations-none}
 use Rattle.annotations.proofs.WordCodes.{word-here, word-other}
 use Rattle.annotations.proofs.FoundSteps.{found-step, pushed-if, found-end}
@@ -64,6 +67,33 @@ module _ (table sheet : List ℕ) (a i id : ℕ) (hi : id ≡ entryOf idPart tab
   pub scan-none : (j : ℕ) → found i ≡ found j → j ≤ a → false ≡ found i
   unfolding anyOf
   scan-none j before h = rw (before, earlier-none sheet a j h)
+
+-- the chains of the annotations
+module _ (table sheet : List ℕ) (a : ℕ) where
+  chained-same :
+      (i n : ℕ) → hasKey (isAnnotation sheet) (entryOf idPart table) a (entryOf idPart table i) n ≡ anyOf (contextBy table sheet .same i) (earlierOf sheet a n)
+  unfolding hasKey anyOf earlierOf contextBy
+  chained-same i zero = refl
+  chained-same i (suc n) = go (chained-same i n) (isAnnotation sheet (a + n)) refl
+    where
+      go :
+          hasKey (isAnnotation sheet) (entryOf idPart table) a (entryOf idPart table i) n ≡ anyOf (contextBy table sheet .same i) (earlierOf sheet a n) →
+          (b : Bool) → isAnnotation sheet (a + n) ≡ b →
+          hasKey (isAnnotation sheet) (entryOf idPart table) a (entryOf idPart table i) (suc n) ≡ anyOf (contextBy table sheet .same i) (earlierOf sheet a (suc n))
+      go ih true t = rw (t, ih)
+      go ih false t = rw (t, ih)
+
+  -- record i is met, and added
+  pub chained-meet :
+      (heads links : List ℕ) (i id b place : ℕ) (r : Bool) → Chained (isAnnotation sheet) (entryOf idPart table) a heads links i →
+      isAnnotation sheet i ≡ true → i < 1024 → id ≡ entryOf idPart table i →
+      r ≡ hasKey (isAnnotation sheet) (entryOf idPart table) a id (i - a) → b ≡ id % 512 → place ≡ i + 1 →
+      (r ≡ anyOf (contextBy table sheet .same i) (earlier sheet a i))
+      × Chained (isAnnotation sheet) (entryOf idPart table) a (set heads b place) (set links i (getD heads b 0)) (i + 1)
+  chained-meet heads links i id b place r c t room hi hr hb hp = (
+    hr ∙ ap (λ v. hasKey (isAnnotation sheet) (entryOf idPart table) a v (i - a)) hi ∙ chained-same i (i - a),
+    rw hp (chained-add (isAnnotation sheet) (entryOf idPart table) a heads links i b t (hb ∙ ap (λ v. v % 512) hi) room c),
+  )
 
 -- whether record i repeats an annotation
 module _ (table sheet : List ℕ) (a i k : ℕ) (hk : k ≡ kindIn (recordBytes sheet i)) where

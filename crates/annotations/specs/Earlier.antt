@@ -9,6 +9,10 @@ use Rattle.rules.specs.Record.{is}
 use Rattle.rules.specs.Context.{doc}
 use Rattle.names.specs.View.{viewAt, contextBy}
 
+-- record i is an annotation
+abbrev pub isAnnotation : List ℕ → ℕ → Bool
+isAnnotation sheet i = is Kind.Annotation (viewAt sheet i)
+
 -- of n records from record a on, those that are annotations, the last first
 unfoldable pub earlierOf : List ℕ → ℕ → ℕ → List ℕ
 earlierOf sheet a zero = []

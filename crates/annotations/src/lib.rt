@@ -5,6 +5,7 @@ mod deprecated;
 mod duplicates;
 mod field;
 mod limit;
+mod met;
 mod records;
 mod words;
 

@@ -9,8 +9,8 @@ use Rattle.rules.specs.Annotations.{annotationsOf, duplicateAnnotations}
 use Rattle.names.specs.View.{viewOf, contextBy}
 use Rattle.diagnostic.specs.Push.{pushFound}
 use Rattle.annotations.proofs.Repeats.{duplicatesFrom, duplicates-start, duplicates-turn, duplicates-end}
-use Rattle.annotations.proofs.duplicates.check_duplicate_annotations.Statement.{statement}
-use Rattle.annotations.proofs.duplicates.check_duplicate_annotations.Tie as tie
+use Rattle.annotations.proofs.duplicates.check_few.Statement.{statement}
+use Rattle.annotations.proofs.duplicates.check_few.Tie as tie
 
 abbrev Inv-loop : tie.InvT-loop
 Inv-loop sheet table list₀ a e counts₀ i₀ list counts i =
@@ -24,8 +24,8 @@ abbrev μ-loop : tie.MeasureT-loop
 
 ruleset laws = (needs, duplicates-start, duplicates-turn, duplicates-end)
 
-pub check-duplicate-annotations-spec : {M : Type 1} → statement M
-check-duplicate-annotations-spec =
+pub check-few-spec : {M : Type 1} → statement M
+check-few-spec =
     tie.close
     (tie.spec
     Inv-loop
