@@ -1,61 +1,60 @@
 -- A whole field list: what is known before each record, and what is still to add.
-use Prim.Native.Nat.{ℕ, _+_, _-_, _≤_, _<_}
+use Prim.Native.Nat.{ℕ, zero, suc, _+_, _-_, _%_, _≤_, _<_}
 use native.Mathlib.Omega.{arith}
-use mathlib.Core.Path.{_≡_, refl, sym, ap, _∙_}
-use mathlib.Core.Bool.{Bool, true, false, not, _&&_, _||_}
-use mathlib.Core.List.{List, [], _∷_, _++_, map}
-use lib.ListN.{length, set, length-set}
-use lib.Dec.{eqb}
-use Rattle.rules.specs.declared.span.Span.{Span}
-use Rattle.rules.specs.Words.{onlyIf, anyOf, member, items}
+use mathlib.Core.Path.{_≡_, refl, sym, ap, ap₂, _∙_}
+use mathlib.Core.Bool.{Bool, true, false, not, _&&_}
+use mathlib.Core.List.{List, []}
+use lib.ListN.{length, getD, set}
+use borrow.Author.Tests.{not-true}
+use Rattle.rules.specs.Words.{anyOf, member, items}
 use Rattle.rules.specs.Kind
-use Rattle.rules.specs.Record.{Rec, is, kindIn, valueIn, recordBytes}
+use Rattle.rules.specs.Record.{is, kindIn, valueIn, recordBytes}
 use Rattle.rules.specs.Grammar.{startsFieldItem}
 use Rattle.rules.specs.Rule.{foundIf}
 use Rattle.rules.specs.Bodies.{fieldScheme, itemsViolations, fieldItemViolations, fieldListViolations}
 use Rattle.names.specs.View.{viewAt, viewOf, entryOf, idPart, contextBy}
 use Rattle.diagnostic.specs.Push.{State, pushFound}
 use Rattle.diagnostic.proofs.FoundPushes.{found-none}
+use Rattle.annotations.specs.Chains.{hasKey, Chained, Ready}
+use Rattle.annotations.proofs.Chains.{chained-none, chained-other, chained-ready}
 use Rattle.annotations.proofs.FoundSteps.{found-step}
-use Rattle.bodies.specs.declared.seen.Seen.{Seen}
-use Rattle.bodies.specs.Seen.{latest}
-use Rattle.bodies.specs.Earlier.{valuesOf, earlier}
+use Rattle.bodies.specs.Earlier.{earlier}
+use Rattle.bodies.specs.Met.{ofKind, valueAt}
+use Rattle.bodies.specs.declared.runs.Run.the-variants.{FieldItem}
+use Rattle.bodies.specs.Runs.{EndsAt, AllIn}
 use Rattle.bodies.specs.Items.{fieldFound}
-use Rattle.bodies.proofs.Collecting.{latest-store}
-use Rattle.bodies.proofs.Passing.{values, gone, before, earlier-next, Known, known-start, known-other, known-room, known-member, known-gone, known-met}
+use Rattle.bodies.proofs.Passing.{values, gone, before, Known, known-start, known-other, known-member, known-gone, known-met}
 use Rattle.bodies.proofs.Turns.{namesOf, kind-is, kind-not, turn-none}
 use Rattle.bodies.proofs.Retired.{retired-fields}
-use Rattle.bodies.proofs.FieldTurns.{fieldsLeft, field-other, field-turn}
-
--- the numbers of the names of records
-abbrev pub idsOf : List ℕ → List (Rec ℕ Span) → List ℕ
-idsOf table = map (λ r. entryOf idPart table (r .name))
-
--- a name is met where its number is
-same-names :
-    (table sheet : List ℕ) (i : ℕ) (rs : List (Rec ℕ Span)) →
-    member (entryOf idPart table i) (idsOf table rs) ≡ anyOf (contextBy table sheet .same i) (namesOf rs)
-unfolding anyOf contextBy
-same-names table sheet i [] = refl
-same-names table sheet i (r ∷ rs) = ap (λ b. eqb (entryOf idPart table i) (entryOf idPart table (r .name)) || b) (same-names table sheet i rs)
+use Rattle.bodies.proofs.FieldTurns.{fieldsLeft, field-not, field-inner, field-other, field-turn}
 
 module _ (table sheet : List ℕ) (a e : ℕ) where
   abbrev tombs : List ℕ
   tombs = gone 11 12 sheet a e
 
-  abbrev fields : ℕ → List (Rec ℕ Span)
-  fields i = before 11 12 sheet a e i
-
-  -- the array holds the numbers of the names of the fields before record i
-  abbrev pub NamesKnown : List ℕ → ℕ → ℕ → Type 0
-  NamesKnown ids n i = (length ids ≡ 1024) × (n ≤ i - a) × (latest ids n ≡ idsOf table (fields i))
+  -- the names in the chains are those of the fields
+  has-names :
+      (i n : ℕ) →
+      hasKey (ofKind 11 sheet) (entryOf idPart table) a (entryOf idPart table i) n ≡ anyOf (contextBy table sheet .same i) (namesOf (earlier 11 sheet a n))
+  unfolding hasKey anyOf earlier contextBy viewAt
+  has-names i zero = refl
+  has-names i (suc n) = go (has-names i n) (ofKind 11 sheet (a + n)) refl
+    where
+      go :
+          hasKey (ofKind 11 sheet) (entryOf idPart table) a (entryOf idPart table i) n ≡ anyOf (contextBy table sheet .same i) (namesOf (earlier 11 sheet a n)) →
+          (b : Bool) → ofKind 11 sheet (a + n) ≡ b →
+          hasKey (ofKind 11 sheet) (entryOf idPart table) a (entryOf idPart table i) (suc n)
+          ≡ anyOf (contextBy table sheet .same i) (namesOf (earlier 11 sheet a (suc n)))
+      go ih true t = rw (t, ih)
+      go ih false t = rw (t, ih)
 
   -- before record i of the list
-  abbrev pub FieldsKnown : ℕ → Seen → Seen → State → State → ℕ → Type 0
-  FieldsKnown tombstones ordinals names s₀ s i =
+  abbrev pub FieldsKnown : List ℕ → List ℕ → List ℕ → List ℕ → List ℕ → State → State → ℕ → Type 0
+  FieldsKnown tombstones ordinals links names nameLinks s₀ s i =
       (length (s .0) ≡ length (s₀ .0))
-      × Known 11 12 sheet a e (ordinals .ordinals) tombstones (ordinals .len) i
-      × NamesKnown (names .ordinals) (names .len) i
+      × (i ≤ e)
+      × Known 11 12 sheet a e tombstones ordinals links i
+      × Chained (ofKind 11 sheet) (entryOf idPart table) a names nameLinks i
       × (pushFound (fieldsLeft table sheet a e tombs i) s ≡ pushFound (fieldListViolations (contextBy table sheet) (viewOf sheet a e)) s₀)
 
   fields-start : fieldsLeft table sheet a e tombs a ≡ fieldListViolations (contextBy table sheet) (viewOf sheet a e)
@@ -68,86 +67,105 @@ module _ (table sheet : List ℕ) (a e : ℕ) where
 
   -- the start of the list
   pub fields-none :
-      (tombstones : ℕ) (ordinals names : List ℕ) (s : State) → e - a ≤ 1024 → length ordinals ≡ 1024 → length names ≡ 1024 →
-      latest ordinals tombstones ≡ valuesOf 12 (viewOf sheet a e) →
-      FieldsKnown tombstones (record { ordinals = ordinals; len = tombstones }) (record { ordinals = names; len = 0 }) s s a
-  unfolding latest earlier
-  fields-none tombstones ordinals names s small size₁ size₂ h =
-      let none : a - a ≡ 0 = omega arith in (
-        refl,
-        known-start 11 12 sheet a e ordinals tombstones (λ k. absurd (omega (arith, k))) small size₁ h,
-        (size₂, omega arith, rw none refl),
-        ap (λ fs. pushFound fs s) fields-start,
-      )
+      (tombstones ordinals links links' names nameLinks : List ℕ) (s : State) → a ≤ e → Ready ordinals links a → Ready names nameLinks a →
+      Chained (ofKind 12 sheet) (valueAt sheet) a tombstones links' e → FieldsKnown tombstones ordinals links' names nameLinks s s a
+  fields-none tombstones ordinals links links' names nameLinks s le r₁ r₂ c = (
+    refl,
+    le,
+    known-start 11 12 sheet a e tombstones ordinals links links' r₁ c,
+    chained-none (ofKind 11 sheet) (entryOf idPart table) a names nameLinks r₂,
+    ap (λ fs. pushFound fs s) fields-start,
+  )
 
-  fields-next : (i : ℕ) (b : Bool) → a ≤ i → is Kind.Field (viewAt sheet i) ≡ b → fields (i + 1) ≡ onlyIf b (viewAt sheet i ∷ []) ++ fields i
-  fields-next i b le t = earlier-next 11 sheet a i le ∙ ap (λ c. onlyIf c (viewAt sheet i ∷ []) ++ fields i) t
+  module _ (tombstones ordinals links names nameLinks : List ℕ) (s₀ s : State) (i : ℕ) where
+    -- a record that is no field
+    pub fields-other :
+        (t : State) (k : ℕ) → FieldsKnown tombstones ordinals links names nameLinks s₀ s i → i < e → k ≡ kindIn (recordBytes sheet i) →
+        (k ≡ 11 → ⊥) → length (t .0) ≡ length (s .0) →
+        t ≡ pushFound (foundIf 1 (is Kind.Invariant (viewAt sheet i)) (viewAt sheet i .place)) s →
+        FieldsKnown tombstones ordinals links names nameLinks s₀ t (i + 1)
+    fields-other t k known h hk ne size ht =
+        let test : is Kind.Field (viewAt sheet i) ≡ false = kind-not sheet i k 11 hk ne in (
+          size ∙ known .0,
+          omega arith,
+          known-other 11 12 sheet a e tombstones ordinals links i test (known .2),
+          chained-other (ofKind 11 sheet) (entryOf idPart table) a names nameLinks i test (known .3),
+          found-step _ _ _ s t _ (field-other table sheet a e tombs i (known .2 .0) h test) ht (known .4),
+        )
 
-  -- a record that is no field
-  pub fields-other :
-      (tombstones : ℕ) (ordinals names : Seen) (s₀ s t : State) (i k : ℕ) →
-      FieldsKnown tombstones ordinals names s₀ s i → i < e → k ≡ kindIn (recordBytes sheet i) → (k ≡ 11 → ⊥) → length (t .0) ≡ length (s .0) →
-      t ≡ pushFound (foundIf 1 (is Kind.Invariant (viewAt sheet i)) (viewAt sheet i .place)) s →
-      FieldsKnown tombstones ordinals names s₀ t (i + 1)
-  fields-other tombstones ordinals names s₀ s t i k known h hk ne size ht =
-      let test : is Kind.Field (viewAt sheet i) ≡ false = kind-not sheet i k 11 hk ne in
-      let le : a ≤ i = known .1 .1 in (
-        size ∙ known .0,
-        known-other 11 12 sheet a e (ordinals .ordinals) tombstones (ordinals .len) i h test (known .1),
-        (known .2 .0, omega (arith, known .2 .1), known .2 .2 ∙ ap (idsOf table) (sym (fields-next i false le test))),
-        found-step _ _ _ s t _ (field-other table sheet a e tombs i le h test) ht (known .3),
-      )
+    -- a record of a field's parts
+    fields-inner :
+        FieldsKnown tombstones ordinals links names nameLinks s₀ s i → i < e → startsFieldItem (viewAt sheet i) ≡ false →
+        FieldsKnown tombstones ordinals links names nameLinks s₀ s (i + 1)
+    fields-inner known h st =
+        let test : is Kind.Field (viewAt sheet i) ≡ false = field-not (viewAt sheet i) st in (
+          known .0,
+          omega arith,
+          known-other 11 12 sheet a e tombstones ordinals links i test (known .2),
+          chained-other (ofKind 11 sheet) (entryOf idPart table) a names nameLinks i test (known .3),
+          ap (λ fs. pushFound fs s) (sym (field-inner table sheet a e tombs i (known .2 .0) h st)) ∙ known .4,
+        )
 
-  -- there is room for one field more
-  pub fields-room :
-      (tombstones : ℕ) (ordinals names : Seen) (s₀ s : State) (i k : ℕ) → FieldsKnown tombstones ordinals names s₀ s i → i < e →
-      k ≡ kindIn (recordBytes sheet i) → k ≡ 11 → ordinals .len < 1024
-  fields-room tombstones ordinals names s₀ s i k known h hk eq =
-      known-room 11 12 sheet a e (ordinals .ordinals) tombstones (ordinals .len) i h (kind-is sheet i k 11 hk eq) (known .1)
+  -- all of a field's parts
+  fields-parts :
+      (tombstones ordinals links names nameLinks : List ℕ) (s₀ s : State) (i n : ℕ) → FieldsKnown tombstones ordinals links names nameLinks s₀ s i →
+      i + n ≤ e → AllIn FieldItem sheet i (i + n) → FieldsKnown tombstones ordinals links names nameLinks s₀ s (i + n)
+  unfolding AllIn
+  fields-parts tombstones ordinals links names nameLinks s₀ s i zero known h all = let none : i + 0 ≡ i = omega arith in rw none known
+  fields-parts tombstones ordinals links names nameLinks s₀ s i (suc n) known h all =
+      let more : i + suc n ≡ i + n + 1 = omega arith in
+      rw more
+      (fields-inner tombstones ordinals links names nameLinks s₀ s (i + n)
+      (fields-parts tombstones ordinals links names nameLinks s₀ s i n known (omega arith) (λ j l lt. all j l (omega arith))) (omega arith)
+      (not-true (startsFieldItem (viewAt sheet (i + n))) (all (i + n) (omega arith) (omega arith))))
 
   -- a field
   pub fields-field :
-      (tombstones : ℕ) (ordinals names : Seen) (s₀ s t : State) (i k ordinal name : ℕ) (tombstoned met renamed : Bool) →
-      FieldsKnown tombstones ordinals names s₀ s i → i < e → k ≡ kindIn (recordBytes sheet i) → k ≡ 11 →
-      ordinal ≡ valueIn (recordBytes sheet i) → name ≡ entryOf idPart table i →
-      tombstoned ≡ member ordinal (latest (ordinals .ordinals) tombstones) → met ≡ member ordinal (latest (ordinals .ordinals) (ordinals .len)) →
-      renamed ≡ member name (latest (names .ordinals) (names .len)) → e - a ≤ 1024 → length (t .0) ≡ length (s .0) →
-      t ≡ pushFound (fieldFound table sheet i e tombstoned met renamed) s →
-      FieldsKnown tombstones
-      (record { ordinals = set (ordinals .ordinals) (ordinals .len) ordinal; len = ordinals .len + 1 })
-      (record { ordinals = set (names .ordinals) (names .len) name; len = names .len + 1 }) s₀ t (i + 1)
+      (tombstones ordinals links ordinals' links' names nameLinks names' nameLinks' : List ℕ) (s₀ s t : State) (i k ordinal end : ℕ) (tombstoned met renamed : Bool) →
+      FieldsKnown tombstones ordinals links names nameLinks s₀ s i → i < e → e ≤ 1024 → k ≡ kindIn (recordBytes sheet i) → k ≡ 11 →
+      ordinal ≡ valueIn (recordBytes sheet i) → tombstoned ≡ hasKey (ofKind 12 sheet) (valueAt sheet) a ordinal (e - a) →
+      (met ≡ hasKey (ofKind 11 sheet) (valueAt sheet) a ordinal (i - a))
+      × (ordinals' ≡ set ordinals (ordinal % 512) (i + 1))
+      × (links' ≡ set links i (getD ordinals (ordinal % 512) 0)) →
+      (renamed ≡ hasKey (ofKind 11 sheet) (entryOf idPart table) a (entryOf idPart table i) (i - a))
+      × Chained (ofKind 11 sheet) (entryOf idPart table) a names' nameLinks' (i + 1) →
+      EndsAt FieldItem sheet (i + 1) e end × (end ≤ e) × (i + 1 ≤ e → i + 1 ≤ end) × AllIn FieldItem sheet (i + 1) end →
+      length (t .0) ≡ length (s .0) → t ≡ pushFound (fieldFound table sheet i end tombstoned met renamed) s →
+      FieldsKnown tombstones ordinals' links' names' nameLinks' s₀ t end
   unfolding viewAt
-  fields-field tombstones ordinals names s₀ s t i k ordinal name tombstoned met renamed known h hk eq ho hn ht hm hr small size hs =
+  fields-field tombstones ordinals links ordinals' links' names nameLinks names' nameLinks' s₀ s t i k ordinal end tombstoned met renamed known h small hk eq ho ht hm hr ends size hs =
       let test : is Kind.Field (viewAt sheet i) ≡ true = kind-is sheet i k 11 hk eq in
-      let le : a ≤ i = known .1 .1 in
-      let room : names .len < length (names .ordinals) = omega (arith, known .2 .0, known .2 .1) in
-      let dead : tombstoned ≡ member (valueIn (recordBytes sheet i)) tombs =
-      known-gone 11 12 sheet a e (ordinals .ordinals) tombstones (ordinals .len) i ordinal tombstoned (known .1) ht
-      ∙ ap (λ v. member v tombs) ho in (
+      let behind : i + 1 ≤ end = ends .2 (omega arith) in
+      let last : i + 1 + (end - (i + 1)) ≡ end = omega arith in
+      let next : FieldsKnown tombstones ordinals' links' names' nameLinks' s₀ t (i + 1) = (
         size ∙ known .0,
-        known-member 11 12 sheet a e (ordinals .ordinals) tombstones (ordinals .len) i ordinal h test ho (known .1),
-        (
-          length-set (names .ordinals) (names .len) name ∙ known .2 .0,
-          omega (arith, known .2 .1),
-          latest-store (names .ordinals) (names .len) name room
-              ∙ ap (λ xs. name ∷ xs) (known .2 .2)
-              ∙ ap (λ n. n ∷ idsOf table (fields i)) hn
-              ∙ ap (idsOf table) (sym (fields-next i true le test)),
-        ),
+        omega arith,
+        rw (hm .1, hm .2) (known-member 11 12 sheet a e tombstones ordinals links i ordinal (omega arith) (λ f. absurd (omega (arith, f))) test ho (known .2)),
+        hr .1,
         found-step _ _ _ s t _
-            (field-turn table sheet a e tombs i tombstoned met renamed le h test dead
-            (known-met 11 12 sheet a e (ordinals .ordinals) tombstones (ordinals .len) i ordinal tombstoned met (known .1) ht hm
-            ∙ ap (λ v. not (member v tombs) && member v (values (fields i))) ho)
-            (hr ∙ ap (member name) (known .2 .2) ∙ ap (λ n. member n (idsOf table (fields i))) hn ∙ same-names table sheet i (fields i)))
-            hs (known .3),
-      )
+            (field-turn table sheet a e tombs i end tombstoned met renamed (known .2 .0) h test (ends .0)
+            (known-gone 11 12 sheet a e ordinal tombstoned ht ∙ ap (λ v. member v tombs) ho)
+            (ap₂ (λ g m. not g && m) (known-gone 11 12 sheet a e ordinal tombstoned ht ∙ ap (λ v. member v tombs) ho) (known-met 11 12 sheet a e i ordinal met (hm .0) ∙ ap (λ v. member v (values (before 11 12 sheet a e i))) ho))
+            (hr .0 ∙ has-names i (i - a)))
+            hs (known .4),
+      ) in
+      rw last at
+      (fields-parts tombstones ordinals' links' names' nameLinks' s₀ t (i + 1) (end - (i + 1)) next (omega (arith, ends .1)) (rw (sym last) at (ends .3)))
 
+  -- the end of the list
   pub fields-end :
-      (tombstones : ℕ) (ordinals names : Seen) (s₀ s : State) (i : ℕ) → FieldsKnown tombstones ordinals names s₀ s i → e ≤ i →
-      s ≡ pushFound (fieldListViolations (contextBy table sheet) (viewOf sheet a e)) s₀
+      (tombstones ordinals links names nameLinks : List ℕ) (s₀ s : State) (i : ℕ) → FieldsKnown tombstones ordinals links names nameLinks s₀ s i → e ≤ i →
+      (s ≡ pushFound (fieldListViolations (contextBy table sheet) (viewOf sheet a e)) s₀)
+      × Ready tombstones links e
+      × Ready ordinals links e
+      × Ready names nameLinks e
   unfolding fieldsLeft
-  fields-end tombstones ordinals names s₀ s i known h =
-      sym (found-none s)
-      ∙ ap (λ fs. pushFound fs s)
-      (sym (turn-none (contextBy table sheet) fieldScheme (fieldItemViolations (contextBy table sheet)) startsFieldItem 11 sheet a e tombs i h))
-      ∙ known .3
+  fields-end tombstones ordinals links names nameLinks s₀ s i known h = (
+    sym (found-none s)
+        ∙ ap (λ fs. pushFound fs s)
+        (sym (turn-none (contextBy table sheet) fieldScheme (fieldItemViolations (contextBy table sheet)) startsFieldItem 11 sheet a e tombs i h))
+        ∙ known .4,
+    chained-ready (ofKind 12 sheet) (valueAt sheet) a tombstones links e e (known .2 .1) (omega arith),
+    chained-ready (ofKind 11 sheet) (valueAt sheet) a ordinals links i e (known .2 .2) (known .1),
+    chained-ready (ofKind 11 sheet) (entryOf idPart table) a names nameLinks i e (known .3) (known .1),
+  )

@@ -1,5 +1,5 @@
 -- A field list, record by record.
-use Prim.Native.Nat.{ℕ, _+_, _-_, _≤_, _<_}
+use Prim.Native.Nat.{ℕ, _+_, _≤_, _<_}
 use native.Mathlib.Omega.{arith}
 use mathlib.Core.Path.{_≡_, refl, sym, ap, ap₂, _∙_}
 use mathlib.Core.Bool.{Bool, true, false, not, _&&_}
@@ -57,6 +57,9 @@ other-member r st t =
 invariant-starts : (r : Rec ℕ Span) → startsFieldItem r ≡ false → is Kind.Invariant r ≡ false
 invariant-starts r st = outside-is Kind.Field Kind.Invariant Kind.Invariant (r .kind) refl st
 
+pub field-not : (r : Rec ℕ Span) → startsFieldItem r ≡ false → is Kind.Field r ≡ false
+field-not r st = outside-is Kind.Field Kind.Invariant Kind.Field (r .kind) refl st
+
 module _ (table sheet : List ℕ) (a e : ℕ) (gone : List ℕ) where
   abbrev ctx : ValidationContext ℕ Span
   ctx = contextBy table sheet
@@ -90,26 +93,31 @@ module _ (table sheet : List ℕ) (a e : ℕ) (gone : List ℕ) where
 
   -- a field
   pub field-turn :
-      (i : ℕ) (tombstoned again renamed : Bool) → a ≤ i → i < e → is Kind.Field (at i) ≡ true →
+      (i end : ℕ) (tombstoned again renamed : Bool) → a ≤ i → i < e → is Kind.Field (at i) ≡ true → EndsAt FieldItem sheet (i + 1) e end →
       tombstoned ≡ member (at i .value) gone →
       (not tombstoned && again) ≡ (not (member (at i .value) gone) && member (at i .value) (values (fieldsBefore i))) →
       renamed ≡ anyOf (ctx .same (at i .name)) (namesOf (fieldsBefore i)) →
-      fieldsLeft i ≡ fieldFound table sheet i e tombstoned again renamed ++ fieldsLeft (i + 1)
-  unfolding fieldsLeft fieldItemViolations fieldFound
-  field-turn i tombstoned again renamed le h t ht hm hn =
+      fieldsLeft i ≡ fieldFound table sheet i end tombstoned again renamed ++ fieldsLeft (i + 1)
+  unfolding fieldsLeft fieldItemViolations fieldFound EndsAt
+  field-turn i end tombstoned again renamed le h t ends ht hm hn =
       turn-member ctx fieldScheme (fieldItemViolations ctx) startsFieldItem 11 sheet a e gone i le h (field-starts (at i) t) (field-member (at i) t) t
       ∙ ap (λ fs. fs ++ fieldsLeft (i + 1))
       (ap₂ _++_ (sym (member-tests ctx fieldScheme gone (values (fieldsBefore i)) (namesOf (fieldsBefore i)) (at i) tombstoned again renamed ht hm hn))
       (ap₂ (λ (b c : Bool). foundIf 1 b (at i .place) ++ onlyIf c (fieldViolations ctx (front (λ r. not (startsFieldItem r)) (viewOf sheet (i + 1) e))))
-      (field-plain (at i) t) t))
+      (field-plain (at i) t) t
+      ∙ ap (fieldViolations ctx) (sym (ends .0))))
+
+  -- a record of a field's parts
+  pub field-inner : (i : ℕ) → a ≤ i → i < e → startsFieldItem (at i) ≡ false → fieldsLeft i ≡ fieldsLeft (i + 1)
+  unfolding fieldsLeft
+  field-inner i le h st =
+      turn-inner ctx fieldScheme (fieldItemViolations ctx) startsFieldItem 11 sheet a e gone i le h st (field-not (at i) st)
 
   -- the ordinal and the name, and then the parts
   pub item-found :
       (i end : ℕ) (tombstoned again renamed : Bool) (s t u : State) →
       t ≡ pushFound (memberFound fieldScheme tombstoned again renamed (at i)) s →
-      EndsAt FieldItem sheet (i + 1) e end →
       u ≡ pushFound (fieldViolations ctx (viewOf sheet (i + 1) end)) t →
-      u ≡ pushFound (fieldFound table sheet i e tombstoned again renamed) s
-  unfolding fieldFound EndsAt
-  item-found i end tombstoned again renamed s t u ht he hu =
-      found-then _ _ s t u ht (hu ∙ ap (λ rs. pushFound (fieldViolations ctx rs) t) (he .0))
+      u ≡ pushFound (fieldFound table sheet i end tombstoned again renamed) s
+  unfolding fieldFound
+  item-found i end tombstoned again renamed s t u ht hu = found-then _ _ s t u ht hu

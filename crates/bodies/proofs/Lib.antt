@@ -1,7 +1,6 @@
 pub mod Backings
 pub mod Bits
 pub mod BodyItems
-pub mod Collecting
 pub mod Declarations
 pub mod FieldList
 pub mod FieldParts

@@ -1,9 +1,10 @@
 -- What is added for an ordinal is what the rules of a scheme find.
 use Prim.Native.Nat.{ℕ}
 use mathlib.Core.Path.{_≡_, refl, sym, ap, _∙_}
-use mathlib.Core.Bool.{Bool, true, false, not, _&&_}
+use mathlib.Core.Bool.{Bool, true, false, not, _&&_, true≢false}
 use mathlib.Core.List.{List, [], _∷_, flatMap}
-use lib.Dec.{eqb, ltb}
+use lib.Dec.{eqb, leb, ltb}
+use borrow.Author.Tests.{leb-true, le-ltb}
 use Rattle.rules.specs.declared.span.Span.{Span}
 use Rattle.rules.specs.declared.violation.Violation.{Violation}
 use Rattle.rules.specs.Kind
@@ -30,6 +31,18 @@ pub ordinal-pushed :
     v ≡ pushOrdinal rules sheet i tombstoned met s
 unfolding pushOrdinal
 ordinal-pushed rules sheet i value tombstoned met span s t u v hs hv ht hu hv' = rw (hv', hu, ht, hs, hv)
+
+-- no test is against the ordinal
+pub ordinal-fine :
+    (rules : OrdinalRules) (sheet : List ℕ) (i ordinal : ℕ) (tombstoned met : Bool) (s : State) → ordinal ≡ valueIn (recordBytes sheet i) →
+    ((not tombstoned && not met) && leb ordinal (rules .greatest)) ≡ true → s ≡ pushOrdinal rules sheet i tombstoned met s
+unfolding pushOrdinal pushIf
+ordinal-fine rules sheet i ordinal true met s ho h = absurd (true≢false (sym h))
+ordinal-fine rules sheet i ordinal false true s ho h = absurd (true≢false (sym h))
+ordinal-fine rules sheet i ordinal false false s ho h =
+    let under : ltb (rules .greatest) (valueIn (recordBytes sheet i)) ≡ false =
+    ap (ltb (rules .greatest)) (sym ho) ∙ le-ltb (rules .greatest) ordinal (leb-true ordinal (rules .greatest) h) in
+    rw under
 
 -- a class is told of a rule
 abbrev Tells : ℕ → ℕ → Type 0

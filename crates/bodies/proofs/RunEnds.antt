@@ -4,6 +4,7 @@ use Prim.Native.Nat.{ℕ, zero, suc, _+_, _-_, _<_, _≤_}
 use mathlib.Core.Path.{_≡_, refl, sym, ap, _∙_}
 use mathlib.Core.Bool.{Bool, true, false, not, _&&_, _||_}
 use mathlib.Core.List.{List, [], _∷_, _++_, append-nil, append-assoc}
+use native.Mathlib.Decide.{ℕ-discrete}
 use native.Mathlib.Omega.{arith}
 use lib.Dec.{leb, ltb, eqb}
 use borrow.Author.Tests.{leb-true, leb-false, not-true, not-false, lt-ltb, le-ltb}
@@ -15,7 +16,7 @@ use Rattle.names.specs.View.{viewAt, viewFrom, viewOf}
 use Rattle.types.proofs.Views.{view-cons, view-none}
 use Rattle.bodies.specs.declared.runs.Run.{Run}
 use Rattle.bodies.specs.declared.runs.Run.the-variants.{Front, Annotations, FieldType, FieldItem, Item}
-use Rattle.bodies.specs.Runs.{inRun, EndsAt}
+use Rattle.bodies.specs.Runs.{inRun, EndsAt, AllIn}
 
 -- a number that is not between two bounds is under the one or over the other
 under : (a b : ℕ) → ltb b a ≡ not (leb a b)
@@ -70,16 +71,17 @@ module _ (run : Run) (sheet : List ℕ) (a e : ℕ) where
     pub most : i - a ≤ e - a
     pub before : front p (viewOf sheet a e) ≡ viewOf sheet a i ++ front p (viewOf sheet i e)
     pub after : rest p (viewOf sheet a e) ≡ rest p (viewOf sheet i e)
+    pub all : AllIn run sheet a i
 
   pub none-passed : Passed a
-  unfolding viewFrom
+  unfolding viewFrom AllIn
   none-passed =
       let none : a - a ≡ 0 = omega arith in
-      record { least = omega arith; most = omega arith; before = rw none; after = refl }
+      record { least = omega arith; most = omega arith; before = rw none; after = refl; all = λ j l h. absurd (omega arith) }
 
   module _ (i : ℕ) (passed : Passed i) where
     pub passed-next : (here : Bool) → i < e → here ≡ p (viewAt sheet i) → not here ≡ false → Passed (i + 1)
-    unfolding front rest
+    unfolding front rest AllIn
     passed-next here h read one =
         let size : i + 1 - a ≡ suc (i - a) = omega arith in
         let place : a + (i - a) ≡ i = omega arith in
@@ -91,19 +93,26 @@ module _ (run : Run) (sheet : List ℕ) (a e : ℕ) where
           most = omega arith;
           before = passed .before ∙ rw (cons, of, front, last, append-assoc);
           after = passed .after ∙ rw (cons, of, rest);
+          all = λ j l lt. further of j l lt (ℕ-discrete j i);
         }
+      where
+        further : p (viewAt sheet i) ≡ true → (j : ℕ) → a ≤ j → j < i + 1 → Dec (j ≡ i) → p (viewAt sheet j) ≡ true
+        further of j l lt (yes same) = rw same of
+        further of j l lt (no differ) = passed .all j l (omega arith)
 
-    pub passed-end : (here : Bool) → i < e → here ≡ p (viewAt sheet i) → not here ≡ true → EndsAt run sheet a e i × (i ≤ e)
+    pub passed-end : (here : Bool) → i < e → here ≡ p (viewAt sheet i) → not here ≡ true → EndsAt run sheet a e i × (i ≤ e) × (a ≤ e → a ≤ i) × AllIn run sheet a i
     unfolding EndsAt front rest
     passed-end here h read one =
         let cons = view-cons sheet i e h in
         let of : p (viewAt sheet i) ≡ false = sym read ∙ not-true here one in (
           (sym (passed .before ∙ rw (cons, of, front, append-nil)), sym (passed .after ∙ rw (cons, of, rest))),
           omega arith,
+          λ le. passed .least,
+          passed .all,
         )
 
-    pub passed-all : e ≤ i → EndsAt run sheet a e e × (e ≤ e)
-    unfolding EndsAt front rest
+    pub passed-all : e ≤ i → EndsAt run sheet a e e × (e ≤ e) × (a ≤ e → a ≤ e) × AllIn run sheet a e
+    unfolding EndsAt front rest AllIn
     passed-all h =
         let size : i - a ≡ e - a = omega arith in
         let none = view-none sheet i e h in (
@@ -112,4 +121,6 @@ module _ (run : Run) (sheet : List ℕ) (a e : ℕ) where
             view-none sheet e e (omega arith) ∙ sym (passed .after ∙ rw none),
           ),
           omega arith,
+          λ le. le,
+          λ j l lt. passed .all j l (omega arith),
         )

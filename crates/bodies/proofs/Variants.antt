@@ -1,11 +1,11 @@
 -- The variants of an enum or a union: what is known before each record, and what is still to add.
-use Prim.Native.Nat.{ℕ, _+_, _-_, _≤_, _<_}
+use Prim.Native.Nat.{ℕ, zero, suc, _+_, _-_, _%_, _≤_, _<_}
 use native.Mathlib.Omega.{arith}
-use mathlib.Core.Path.{_≡_, refl, sym, ap, _∙_}
+use mathlib.Core.Path.{_≡_, refl, sym, ap, ap₂, _∙_}
 use mathlib.Core.Bool.{Bool, true, false, not, _&&_}
 use mathlib.Core.List.{List, [], _++_, append-nil, flatMap}
-use lib.ListN.{length, set}
-use borrow.Author.Tests.{eqb-true}
+use lib.ListN.{length, getD, set}
+use borrow.Author.Tests.{eqb-true, not-true}
 use Rattle.rules.specs.declared.span.Span.{Span}
 use Rattle.rules.specs.Words.{onlyIf, anyOf, member, front, Item, items}
 use Rattle.rules.specs.Kind
@@ -14,20 +14,21 @@ use Rattle.rules.specs.Context.{ValidationContext}
 use Rattle.rules.specs.Grammar.{startsItem}
 use Rattle.rules.specs.Rule.{Found}
 use Rattle.rules.specs.Bodies.{Scheme, enumScheme, unionScheme, isMember, itemsViolations, listViolations, bodyItems, fieldListViolations, unionViolations}
+use Rattle.rules.proofs.Taken.{outside-is}
 use Rattle.names.specs.View.{viewAt, viewOf, contextBy}
 use Rattle.diagnostic.specs.Push.{State, pushFound}
 use Rattle.diagnostic.proofs.FoundPushes.{found-none, found-then}
+use Rattle.annotations.specs.Chains.{hasKey, Chained, Ready}
 use Rattle.annotations.proofs.FoundSteps.{found-step}
-use Rattle.bodies.specs.declared.seen.Seen.{Seen}
-use Rattle.bodies.specs.Seen.{latest}
-use Rattle.bodies.specs.Earlier.{valuesOf, earlier}
+use Rattle.bodies.specs.Earlier.{earlier}
+use Rattle.bodies.specs.Met.{ofKind, valueAt}
 use Rattle.bodies.specs.declared.runs.Run.the-variants as Run
-use Rattle.bodies.specs.Runs.{EndsAt}
+use Rattle.bodies.specs.Runs.{EndsAt, AllIn}
 use Rattle.bodies.specs.Items.{variantFound}
 use Rattle.bodies.specs.Ordinal.{pushOrdinal, memberFound}
 use Rattle.bodies.proofs.BodyItems.{item-member}
 use Rattle.bodies.proofs.Ordinals.{union-members}
-use Rattle.bodies.proofs.Passing.{values, gone, before, Known, known-start, known-other, known-room, known-member, known-gone, known-met}
+use Rattle.bodies.proofs.Passing.{values, gone, before, Known, known-start, known-other, known-member, known-gone, known-met}
 use Rattle.bodies.proofs.Turns.{namesOf, kind-is, kind-not, left, itemAt, turn-member, turn-other, turn-inner, turn-none}
 use Rattle.bodies.proofs.Retired.{retired-items}
 use Rattle.bodies.proofs.FieldTurns.{member-tests}
@@ -61,10 +62,11 @@ module _
     variants i = before 14 15 sheet a e i
 
     -- before record i of the body
-    abbrev pub VariantsKnown : ℕ → Seen → State → State → ℕ → Type 0
-    VariantsKnown tombstones seen s₀ s i =
+    abbrev pub VariantsKnown : List ℕ → List ℕ → List ℕ → State → State → ℕ → Type 0
+    VariantsKnown tombstones ordinals links s₀ s i =
         (length (s .0) ≡ length (s₀ .0))
-        × Known 14 15 sheet a e (seen .ordinals) tombstones (seen .len) i
+        × (i ≤ e)
+        × Known 14 15 sheet a e tombstones ordinals links i
         × (pushFound (still i) s ≡ pushFound (listViolations ctx scheme own (bodyItems (viewOf sheet a e))) s₀)
 
     variants-start : still a ≡ listViolations ctx scheme own (bodyItems (viewOf sheet a e))
@@ -74,11 +76,10 @@ module _
         rw none (ap (λ xs. itemsViolations ctx scheme own xs [] [] (items startsItem (viewOf sheet a e))) (sym (retired-items (viewOf sheet a e))))
 
     pub variants-none :
-        (tombstones : ℕ) (ordinals : List ℕ) (s : State) → e - a ≤ 1024 → length ordinals ≡ 1024 →
-        latest ordinals tombstones ≡ valuesOf 15 (viewOf sheet a e) →
-        VariantsKnown tombstones (record { ordinals = ordinals; len = tombstones }) s s a
-    variants-none tombstones ordinals s small size h =
-        (refl, known-start 14 15 sheet a e ordinals tombstones (λ k. absurd (omega (arith, k))) small size h, ap (λ fs. pushFound fs s) variants-start)
+        (tombstones ordinals links links' : List ℕ) (s : State) → a ≤ e → Ready ordinals links a →
+        Chained (ofKind 15 sheet) (valueAt sheet) a tombstones links' e → VariantsKnown tombstones ordinals links' s s a
+    variants-none tombstones ordinals links links' s le r c =
+        (refl, le, known-start 14 15 sheet a e tombstones ordinals links links' r c, ap (λ fs. pushFound fs s) variants-start)
 
     other-left : (i : ℕ) → a ≤ i → i < e → is Kind.Variant (at i) ≡ false → still i ≡ still (i + 1)
     other-left i le h t = go (startsItem (at i)) refl
@@ -89,16 +90,36 @@ module _
             ∙ ap (λ fs. fs ++ still (i + 1)) (nothing (itemAt ctx scheme own startsItem 14 sheet a e tombs i) t)
         go false st = turn-inner ctx scheme own startsItem 14 sheet a e tombs i le h st t
 
+    variants-next :
+        (tombstones ordinals links : List ℕ) (s₀ s : State) (i : ℕ) → VariantsKnown tombstones ordinals links s₀ s i → i < e → is Kind.Variant (at i) ≡ false →
+        VariantsKnown tombstones ordinals links s₀ s (i + 1)
+    variants-next tombstones ordinals links s₀ s i known h test = (
+      known .0,
+      omega arith,
+      known-other 14 15 sheet a e tombstones ordinals links i test (known .2),
+      ap (λ fs. pushFound fs s) (sym (other-left i (known .2 .0) h test)) ∙ known .3,
+    )
+
     -- a record that is no variant
     pub variants-other :
-        (tombstones : ℕ) (seen : Seen) (s₀ s : State) (i k : ℕ) → VariantsKnown tombstones seen s₀ s i → i < e →
-        k ≡ kindIn (recordBytes sheet i) → (k ≡ 14 → ⊥) → VariantsKnown tombstones seen s₀ s (i + 1)
-    variants-other tombstones seen s₀ s i k known h hk ne =
-        let test : is Kind.Variant (at i) ≡ false = kind-not sheet i k 14 hk ne in (
-          known .0,
-          known-other 14 15 sheet a e (seen .ordinals) tombstones (seen .len) i h test (known .1),
-          ap (λ fs. pushFound fs s) (sym (other-left i (known .1 .1) h test)) ∙ known .2,
-        )
+        (tombstones ordinals links : List ℕ) (s₀ s : State) (i k : ℕ) → VariantsKnown tombstones ordinals links s₀ s i → i < e →
+        k ≡ kindIn (recordBytes sheet i) → (k ≡ 14 → ⊥) → VariantsKnown tombstones ordinals links s₀ s (i + 1)
+    variants-other tombstones ordinals links s₀ s i k known h hk ne =
+        variants-next tombstones ordinals links s₀ s i known h (kind-not sheet i k 14 hk ne)
+
+    -- all records up to the next item
+    pub variants-parts :
+        (tombstones ordinals links : List ℕ) (s₀ s : State) (i n : ℕ) → VariantsKnown tombstones ordinals links s₀ s i → i + n ≤ e →
+        AllIn Run.Item sheet i (i + n) → VariantsKnown tombstones ordinals links s₀ s (i + n)
+    unfolding AllIn
+    variants-parts tombstones ordinals links s₀ s i zero known h all = let none : i + 0 ≡ i = omega arith in rw none known
+    variants-parts tombstones ordinals links s₀ s i (suc n) known h all =
+        let more : i + suc n ≡ i + n + 1 = omega arith in
+        rw more
+        (variants-next tombstones ordinals links s₀ s (i + n)
+        (variants-parts tombstones ordinals links s₀ s i n known (omega arith) (λ j l lt. all j l (omega arith))) (omega arith)
+        (outside-is Kind.Variant Kind.Tombstone Kind.Variant (at (i + n) .kind) refl
+        (not-true (startsItem (at (i + n))) (all (i + n) (omega arith) (omega arith)))))
 
     -- no name is asked for
     names-free : (tombstoned met b c : Bool) (r : Rec ℕ Span) → memberFound scheme tombstoned met b r ≡ memberFound scheme tombstoned met c r
@@ -107,46 +128,41 @@ module _
 
     -- a variant
     pub variants-variant :
-        (tombstones : ℕ) (seen : Seen) (s₀ s t : State) (i k ordinal : ℕ) (tombstoned met : Bool) →
-        VariantsKnown tombstones seen s₀ s i → i < e → k ≡ kindIn (recordBytes sheet i) → k ≡ 14 → ordinal ≡ valueIn (recordBytes sheet i) →
-        tombstoned ≡ member ordinal (latest (seen .ordinals) tombstones) → met ≡ member ordinal (latest (seen .ordinals) (seen .len)) →
+        (tombstones ordinals links ordinals' links' : List ℕ) (s₀ s t : State) (i k ordinal : ℕ) (tombstoned met : Bool) →
+        VariantsKnown tombstones ordinals links s₀ s i → i < e → e ≤ 1024 → k ≡ kindIn (recordBytes sheet i) → k ≡ 14 →
+        ordinal ≡ valueIn (recordBytes sheet i) → tombstoned ≡ hasKey (ofKind 15 sheet) (valueAt sheet) a ordinal (e - a) →
+        (met ≡ hasKey (ofKind 14 sheet) (valueAt sheet) a ordinal (i - a))
+        × (ordinals' ≡ set ordinals (ordinal % 512) (i + 1))
+        × (links' ≡ set links i (getD ordinals (ordinal % 512) 0)) →
         length (t .0) ≡ length (s .0) →
         t ≡ pushFound (memberFound scheme tombstoned met false (at i) ++ own (itemAt ctx scheme own startsItem 14 sheet a e tombs i)) s →
-        VariantsKnown tombstones (record { ordinals = set (seen .ordinals) (seen .len) ordinal; len = seen .len + 1 }) s₀ t (i + 1)
+        VariantsKnown tombstones ordinals' links' s₀ t (i + 1)
     unfolding viewAt
-    variants-variant tombstones seen s₀ s t i k ordinal tombstoned met known h hk eq ho ht hm size hs =
+    variants-variant tombstones ordinals links ordinals' links' s₀ s t i k ordinal tombstoned met known h small hk eq ho ht hm size hs =
         let test : is Kind.Variant (at i) ≡ true = kind-is sheet i k 14 hk eq in
-        let le : a ≤ i = known .1 .1 in
         let again : Bool = anyOf (ctx .same (at i .name)) (namesOf (variants i)) in
         let dead : tombstoned ≡ member (valueIn (recordBytes sheet i)) tombs =
-        known-gone 14 15 sheet a e (seen .ordinals) tombstones (seen .len) i ordinal tombstoned (known .1) ht ∙ ap (λ v. member v tombs) ho in (
+        known-gone 14 15 sheet a e ordinal tombstoned ht ∙ ap (λ v. member v tombs) ho in (
           size ∙ known .0,
-          known-member 14 15 sheet a e (seen .ordinals) tombstones (seen .len) i ordinal h test ho (known .1),
+          omega arith,
+          rw (hm .1, hm .2) (known-member 14 15 sheet a e tombstones ordinals links i ordinal (omega arith) (λ f. absurd (omega (arith, f))) test ho (known .2)),
           found-step _ _ _ s t _
-              (turn-member ctx scheme own startsItem 14 sheet a e tombs i le h (variant-starts (at i) test) (variant-member (at i) test) test
+              (turn-member ctx scheme own startsItem 14 sheet a e tombs i (known .2 .0) h (variant-starts (at i) test) (variant-member (at i) test) test
               ∙ ap (λ fs. fs ++ own (itemAt ctx scheme own startsItem 14 sheet a e tombs i) ++ still (i + 1))
               (sym (names-free tombstoned met false again (at i)
               ∙ member-tests ctx scheme tombs (values (variants i)) (namesOf (variants i)) (at i) tombstoned met again dead
-              (known-met 14 15 sheet a e (seen .ordinals) tombstones (seen .len) i ordinal tombstoned met (known .1) ht hm
-              ∙ ap (λ v. not (member v tombs) && member v (values (variants i))) ho)
+              (ap₂ (λ g m. not g && m) dead (known-met 14 15 sheet a e i ordinal met (hm .0) ∙ ap (λ v. member v (values (variants i))) ho))
               refl)))
-              hs (known .2),
+              hs (known .3),
         )
 
-    -- there is room for one variant more
-    pub variants-room :
-        (tombstones : ℕ) (seen : Seen) (s₀ s : State) (i k : ℕ) → VariantsKnown tombstones seen s₀ s i → i < e → k ≡ kindIn (recordBytes sheet i) → k ≡ 14 →
-        seen .len < 1024
-    variants-room tombstones seen s₀ s i k known h hk eq =
-        known-room 14 15 sheet a e (seen .ordinals) tombstones (seen .len) i h (kind-is sheet i k 14 hk eq) (known .1)
-
     pub variants-end :
-        (tombstones : ℕ) (seen : Seen) (s₀ s : State) (i : ℕ) → VariantsKnown tombstones seen s₀ s i → e ≤ i →
+        (tombstones ordinals links : List ℕ) (s₀ s : State) (i : ℕ) → VariantsKnown tombstones ordinals links s₀ s i → e ≤ i →
         s ≡ pushFound (listViolations ctx scheme own (bodyItems (viewOf sheet a e))) s₀
-    variants-end tombstones seen s₀ s i known h =
+    variants-end tombstones ordinals links s₀ s i known h =
         sym (found-none s)
         ∙ ap (λ fs. pushFound fs s) (sym (turn-none ctx scheme own startsItem 14 sheet a e tombs i h))
-        ∙ known .2
+        ∙ known .3
 
 module _ (table sheet : List ℕ) (a e : ℕ) where
   abbrev ctx : ValidationContext ℕ Span
@@ -159,36 +175,35 @@ module _ (table sheet : List ℕ) (a e : ℕ) where
   abbrev enumNothing : (it : Item (Rec ℕ Span)) → is Kind.Variant (it .head) ≡ false → enumOwn it ≡ []
   enumNothing it h = refl
 
-  abbrev pub EnumKnown : ℕ → Seen → State → State → ℕ → Type 0
+  abbrev pub EnumKnown : List ℕ → List ℕ → List ℕ → State → State → ℕ → Type 0
   EnumKnown = VariantsKnown ctx enumScheme refl enumOwn enumNothing sheet a e
 
   pub enum-none :
-      (tombstones : ℕ) (ordinals : List ℕ) (s : State) → e - a ≤ 1024 → length ordinals ≡ 1024 →
-      latest ordinals tombstones ≡ valuesOf 15 (viewOf sheet a e) → EnumKnown tombstones (record { ordinals = ordinals; len = tombstones }) s s a
+      (tombstones ordinals links links' : List ℕ) (s : State) → a ≤ e → Ready ordinals links a →
+      Chained (ofKind 15 sheet) (valueAt sheet) a tombstones links' e → EnumKnown tombstones ordinals links' s s a
   enum-none = variants-none ctx enumScheme refl enumOwn enumNothing sheet a e
 
   pub enum-other :
-      (tombstones : ℕ) (seen : Seen) (s₀ s : State) (i k : ℕ) → EnumKnown tombstones seen s₀ s i → i < e →
-      k ≡ kindIn (recordBytes sheet i) → (k ≡ 14 → ⊥) → EnumKnown tombstones seen s₀ s (i + 1)
+      (tombstones ordinals links : List ℕ) (s₀ s : State) (i k : ℕ) → EnumKnown tombstones ordinals links s₀ s i → i < e →
+      k ≡ kindIn (recordBytes sheet i) → (k ≡ 14 → ⊥) → EnumKnown tombstones ordinals links s₀ s (i + 1)
   enum-other = variants-other ctx enumScheme refl enumOwn enumNothing sheet a e
 
-  pub enum-room :
-      (tombstones : ℕ) (seen : Seen) (s₀ s : State) (i k : ℕ) → EnumKnown tombstones seen s₀ s i → i < e → k ≡ kindIn (recordBytes sheet i) → k ≡ 14 →
-      seen .len < 1024
-  enum-room = variants-room ctx enumScheme refl enumOwn enumNothing sheet a e
-
   pub enum-variant :
-      (tombstones : ℕ) (seen : Seen) (s₀ s t : State) (i k ordinal : ℕ) (tombstoned met : Bool) → EnumKnown tombstones seen s₀ s i → i < e →
-      k ≡ kindIn (recordBytes sheet i) → k ≡ 14 → ordinal ≡ valueIn (recordBytes sheet i) →
-      tombstoned ≡ member ordinal (latest (seen .ordinals) tombstones) → met ≡ member ordinal (latest (seen .ordinals) (seen .len)) →
+      (tombstones ordinals links ordinals' links' : List ℕ) (s₀ s t : State) (i k ordinal : ℕ) (tombstoned met : Bool) →
+      EnumKnown tombstones ordinals links s₀ s i → i < e → e ≤ 1024 → k ≡ kindIn (recordBytes sheet i) → k ≡ 14 →
+      ordinal ≡ valueIn (recordBytes sheet i) → tombstoned ≡ hasKey (ofKind 15 sheet) (valueAt sheet) a ordinal (e - a) →
+      (met ≡ hasKey (ofKind 14 sheet) (valueAt sheet) a ordinal (i - a))
+      × (ordinals' ≡ set ordinals (ordinal % 512) (i + 1))
+      × (links' ≡ set links i (getD ordinals (ordinal % 512) 0)) →
       length (t .0) ≡ length (s .0) → t ≡ pushFound (memberFound enumScheme tombstoned met false (viewAt sheet i)) s →
-      EnumKnown tombstones (record { ordinals = set (seen .ordinals) (seen .len) ordinal; len = seen .len + 1 }) s₀ t (i + 1)
-  enum-variant tombstones seen s₀ s t i k ordinal tombstoned met known h hk eq ho ht hm size hs =
-      variants-variant ctx enumScheme refl enumOwn enumNothing sheet a e tombstones seen s₀ s t i k ordinal tombstoned met known h hk eq ho ht hm size
+      EnumKnown tombstones ordinals' links' s₀ t (i + 1)
+  enum-variant tombstones ordinals links ordinals' links' s₀ s t i k ordinal tombstoned met known h small hk eq ho ht hm size hs =
+      variants-variant ctx enumScheme refl enumOwn enumNothing sheet a e tombstones ordinals links ordinals' links' s₀ s t i k ordinal tombstoned met known h small hk eq
+      ho ht hm size
       (hs ∙ ap (λ fs. pushFound fs s) (sym (append-nil (memberFound enumScheme tombstoned met false (viewAt sheet i)))))
 
   pub enum-end :
-      (tombstones : ℕ) (seen : Seen) (s₀ s : State) (i : ℕ) → EnumKnown tombstones seen s₀ s i → e ≤ i →
+      (tombstones ordinals links : List ℕ) (s₀ s : State) (i : ℕ) → EnumKnown tombstones ordinals links s₀ s i → e ≤ i →
       s ≡ pushFound (listViolations ctx enumScheme (λ it. []) (bodyItems (viewOf sheet a e))) s₀
   enum-end = variants-end ctx enumScheme refl enumOwn enumNothing sheet a e
 
@@ -199,50 +214,54 @@ module _ (table sheet : List ℕ) (a e : ℕ) where
   pub unionNothing : (it : Item (Rec ℕ Span)) → is Kind.Variant (it .head) ≡ false → unionOwn it ≡ []
   unionNothing it h = ap (λ b. onlyIf b (fieldListViolations ctx (it .rest))) h
 
-  abbrev pub UnionKnown : ℕ → Seen → State → State → ℕ → Type 0
+  abbrev pub UnionKnown : List ℕ → List ℕ → List ℕ → State → State → ℕ → Type 0
   UnionKnown = VariantsKnown ctx unionScheme refl unionOwn unionNothing sheet a e
 
   pub union-none :
-      (tombstones : ℕ) (ordinals : List ℕ) (s : State) → e - a ≤ 1024 → length ordinals ≡ 1024 →
-      latest ordinals tombstones ≡ valuesOf 15 (viewOf sheet a e) → UnionKnown tombstones (record { ordinals = ordinals; len = tombstones }) s s a
+      (tombstones ordinals links links' : List ℕ) (s : State) → a ≤ e → Ready ordinals links a →
+      Chained (ofKind 15 sheet) (valueAt sheet) a tombstones links' e → UnionKnown tombstones ordinals links' s s a
   union-none = variants-none ctx unionScheme refl unionOwn unionNothing sheet a e
 
   pub union-other :
-      (tombstones : ℕ) (seen : Seen) (s₀ s : State) (i k : ℕ) → UnionKnown tombstones seen s₀ s i → i < e →
-      k ≡ kindIn (recordBytes sheet i) → (k ≡ 14 → ⊥) → UnionKnown tombstones seen s₀ s (i + 1)
+      (tombstones ordinals links : List ℕ) (s₀ s : State) (i k : ℕ) → UnionKnown tombstones ordinals links s₀ s i → i < e →
+      k ≡ kindIn (recordBytes sheet i) → (k ≡ 14 → ⊥) → UnionKnown tombstones ordinals links s₀ s (i + 1)
   union-other = variants-other ctx unionScheme refl unionOwn unionNothing sheet a e
 
   -- the ordinal, and then the fields
   pub variant-found :
       (i end : ℕ) (tombstoned met : Bool) (s t u : State) →
       t ≡ pushOrdinal (record { greatest = 65535; «too_large» = 43; reused = 42; duplicate = 42 }) sheet i tombstoned met s →
-      EndsAt Run.Item sheet (i + 1) e end → u ≡ pushFound (fieldListViolations ctx (viewOf sheet (i + 1) end)) t →
-      u ≡ pushFound (variantFound table sheet i e tombstoned met) s
-  unfolding variantFound EndsAt
-  variant-found i end tombstoned met s t u ht he hu =
-      found-then _ _ s t u (union-members sheet i tombstoned met s t ht) (hu ∙ ap (λ rs. pushFound (fieldListViolations ctx rs) t) (he .0))
-
-  pub union-room :
-      (tombstones : ℕ) (seen : Seen) (s₀ s : State) (i k : ℕ) → UnionKnown tombstones seen s₀ s i → i < e → k ≡ kindIn (recordBytes sheet i) → k ≡ 14 →
-      seen .len < 1024
-  union-room = variants-room ctx unionScheme refl unionOwn unionNothing sheet a e
+      u ≡ pushFound (fieldListViolations ctx (viewOf sheet (i + 1) end)) t → u ≡ pushFound (variantFound table sheet i end tombstoned met) s
+  unfolding variantFound
+  variant-found i end tombstoned met s t u ht hu = found-then _ _ s t u (union-members sheet i tombstoned met s t ht) hu
 
   pub union-variant :
-      (tombstones : ℕ) (seen : Seen) (s₀ s t : State) (i k ordinal : ℕ) (tombstoned met : Bool) → UnionKnown tombstones seen s₀ s i → i < e →
-      k ≡ kindIn (recordBytes sheet i) → k ≡ 14 → ordinal ≡ valueIn (recordBytes sheet i) →
-      tombstoned ≡ member ordinal (latest (seen .ordinals) tombstones) → met ≡ member ordinal (latest (seen .ordinals) (seen .len)) →
-      length (t .0) ≡ length (s .0) → t ≡ pushFound (variantFound table sheet i e tombstoned met) s →
-      UnionKnown tombstones (record { ordinals = set (seen .ordinals) (seen .len) ordinal; len = seen .len + 1 }) s₀ t (i + 1)
-  unfolding variantFound
-  union-variant tombstones seen s₀ s t i k ordinal tombstoned met known h hk eq ho ht hm size hs =
-      variants-variant ctx unionScheme refl unionOwn unionNothing sheet a e tombstones seen s₀ s t i k ordinal tombstoned met known h hk eq ho ht hm size
+      (tombstones ordinals links ordinals' links' : List ℕ) (s₀ s t : State) (i k ordinal end : ℕ) (tombstoned met : Bool) →
+      UnionKnown tombstones ordinals links s₀ s i → i < e → e ≤ 1024 → k ≡ kindIn (recordBytes sheet i) → k ≡ 14 →
+      ordinal ≡ valueIn (recordBytes sheet i) → tombstoned ≡ hasKey (ofKind 15 sheet) (valueAt sheet) a ordinal (e - a) →
+      (met ≡ hasKey (ofKind 14 sheet) (valueAt sheet) a ordinal (i - a))
+      × (ordinals' ≡ set ordinals (ordinal % 512) (i + 1))
+      × (links' ≡ set links i (getD ordinals (ordinal % 512) 0)) →
+      EndsAt Run.Item sheet (i + 1) e end × (end ≤ e) × (i + 1 ≤ e → i + 1 ≤ end) × AllIn Run.Item sheet (i + 1) end →
+      length (t .0) ≡ length (s .0) → t ≡ pushFound (variantFound table sheet i end tombstoned met) s →
+      UnionKnown tombstones ordinals' links' s₀ t end
+  unfolding variantFound EndsAt
+  union-variant tombstones ordinals links ordinals' links' s₀ s t i k ordinal end tombstoned met known h small hk eq ho ht hm ends size hs =
+      let behind : i + 1 ≤ end = ends .2 (omega arith) in
+      let last : i + 1 + (end - (i + 1)) ≡ end = omega arith in
+      rw last at
+      (variants-parts ctx unionScheme refl unionOwn unionNothing sheet a e tombstones ordinals' links' s₀ t (i + 1) (end - (i + 1))
+      (variants-variant ctx unionScheme refl unionOwn unionNothing sheet a e tombstones ordinals links ordinals' links' s₀ s t i k ordinal tombstoned met known h small
+      hk eq ho ht hm size
       (hs
+      ∙ ap (λ rs. pushFound (memberFound unionScheme tombstoned met false (viewAt sheet i) ++ fieldListViolations ctx rs) s) (ends .0 .0)
       ∙ ap (λ b. pushFound (memberFound unionScheme tombstoned met false (viewAt sheet i)
       ++ onlyIf b (fieldListViolations ctx (front (λ r. not (startsItem r)) (viewOf sheet (i + 1) e)))) s)
-      (sym (kind-is sheet i k 14 hk eq)))
+      (sym (kind-is sheet i k 14 hk eq))))
+      (omega (arith, ends .1)) (rw (sym last) at (ends .3)))
 
   pub union-end :
-      (tombstones : ℕ) (seen : Seen) (s₀ s : State) (i : ℕ) → UnionKnown tombstones seen s₀ s i → e ≤ i →
+      (tombstones ordinals links : List ℕ) (s₀ s : State) (i : ℕ) → UnionKnown tombstones ordinals links s₀ s i → e ≤ i →
       s ≡ pushFound (unionViolations ctx (viewOf sheet a e)) s₀
   unfolding unionViolations
   union-end = variants-end ctx unionScheme refl unionOwn unionNothing sheet a e

@@ -1,21 +1,22 @@
 // An enum: rules 31 to 33.
 ghost use mathlib.Core.Path.{_≡_};
 ghost use mathlib.Core.List.{List, []};
-ghost use Prim.Native.Nat.{ℕ, _≤_, _-_};
+ghost use Prim.Native.Nat.{ℕ, _≤_};
 ghost use Rattle.rules.specs.declared.answer.Counts.{Counts};
 ghost use mathlib.Core.Bool.{false};
 ghost use lib.Dec.{ltb};
 ghost use Rattle.rules.specs.Words.{anyOf};
+ghost use Rattle.rules.specs.Record.{valueIn, recordBytes};
 ghost use Rattle.rules.specs.Bodies.{backingMax, enumScheme, bodyItems, slots, usedOrdinals, listViolations, enumViolations};
 ghost use Rattle.names.specs.View.{viewAt, viewOf, contextBy};
 ghost use Rattle.diagnostic.specs.Push.{pushFound};
 ghost use Rattle.bodies.specs.Ordinal.{memberFound};
 ghost use Rattle.bodies.specs.Backing.{narrowFound, backingsFrom};
+use crate::met::chain_ordinals;
+use crate::met::has_ordinal;
+use crate::met::meet_ordinal;
 use crate::ordinal::OrdinalRules;
 use crate::ordinal::check_ordinal;
-use crate::seen::Seen;
-use crate::seen::collect;
-use crate::seen::contains;
 use rules::Counts;
 use rules::Sheet;
 use rules::Violation;
@@ -27,9 +28,11 @@ fn check_variant(
     list: &mut [u8],
     counts: Counts,
     i: usize,
+    ordinal: u64,
     tombstoned: bool,
     met: bool,
 ) -> Counts
+    requires { ⌜ ordinal ≡ valueIn (recordBytes (now sheet) i) ⌝ }
     ensures { λ r. ⌜ _≡_ {A = List ℕ × Counts} (now (list .exit), r) (pushFound (memberFound enumScheme tombstoned met false (viewAt (now (sheet .entry)) i)) (now (list .entry), counts)) ⌝ }
 {
     let rules = OrdinalRules {
@@ -38,7 +41,7 @@ fn check_variant(
         reused: Violation::EnumOrdinalDuplicate,
         duplicate: Violation::EnumOrdinalDuplicate,
     };
-    check_ordinal(sheet, list, counts, i, rules, tombstoned, met)
+    check_ordinal(sheet, list, counts, i, ordinal, rules, tombstoned, met)
 }
 
 // Adds what is wrong with the variants at records `a` up to `e`.
@@ -50,15 +53,13 @@ fn check_variants(
     a: usize,
     e: usize,
 ) -> Counts
-    requires { ⌜ e - a ≤ 1024 ⌝ }
+    requires { ⌜ (a ≤ e) × (e ≤ 1024) ⌝ }
     ensures { λ r. ⌜ _≡_ {A = List ℕ × Counts} (now (list .exit), r) (pushFound (listViolations (contextBy (now (table .entry)) (now (sheet .entry))) enumScheme (λ it. []) (bodyItems (viewOf (now (sheet .entry)) a e))) (now (list .entry), counts)) ⌝ }
 {
-    let mut seen = Seen {
-        ordinals: [0; 1024],
-        len: 0,
-    };
-    let tombstones = collect(sheet, a, e, kinds::TOMBSTONE, &mut seen.ordinals);
-    seen.len = tombstones;
+    let mut tombstones: [u16; 512] = [0; 512];
+    let mut ordinals: [u16; 512] = [0; 512];
+    let mut links: [u16; 1024] = [0; 1024];
+    chain_ordinals(sheet, &mut tombstones, &mut links, kinds::TOMBSTONE, a, e);
     let mut counts = counts;
     let mut i = a;
     while i < e {
@@ -67,11 +68,17 @@ fn check_variants(
             continue;
         }
         let ordinal = sheet::value(sheet, i);
-        let tombstoned = contains(&seen.ordinals, tombstones, ordinal);
-        let met = contains(&seen.ordinals, seen.len, ordinal);
-        seen.ordinals[seen.len] = ordinal;
-        seen.len += 1;
-        counts = check_variant(sheet, list, counts, i, tombstoned, met);
+        let tombstoned = has_ordinal(sheet, &tombstones, &links, kinds::TOMBSTONE, a, e, ordinal);
+        let met = meet_ordinal(
+            sheet,
+            &mut ordinals,
+            &mut links,
+            kinds::VARIANT,
+            a,
+            i,
+            ordinal,
+        );
+        counts = check_variant(sheet, list, counts, i, ordinal, tombstoned, met);
         i += 1;
     }
     counts
@@ -145,7 +152,7 @@ pub fn check_enum(
     a: usize,
     e: usize,
 ) -> Counts
-    requires { ⌜ e - a ≤ 1024 ⌝ }
+    requires { ⌜ (a ≤ e) × (e ≤ 1024) ⌝ }
     ensures { λ r. ⌜ _≡_ {A = List ℕ × Counts} (now (list .exit), r) (pushFound (enumViolations (contextBy (now (table .entry)) (now (sheet .entry))) (viewOf (now (sheet .entry)) a e)) (now (list .entry), counts)) ⌝ }
 {
     let counts = check_variants(sheet, table, list, counts, a, e);

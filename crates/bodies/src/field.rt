@@ -3,12 +3,50 @@ ghost use mathlib.Core.Path.{_≡_};
 ghost use mathlib.Core.List.{List};
 ghost use Prim.Native.Nat.{ℕ};
 ghost use Rattle.rules.specs.declared.answer.Counts.{Counts};
+ghost use Rattle.rules.specs.Annotations.{annotationsViolations};
+ghost use Rattle.rules.specs.Conditions.{conditionViolations};
 ghost use Rattle.rules.specs.Bodies.{fieldViolations};
 ghost use Rattle.names.specs.View.{viewOf, contextBy};
 ghost use Rattle.diagnostic.specs.Push.{pushFound};
 use crate::runs::Run;
 use crate::runs::run_end;
 use rules::Counts;
+
+// Adds what is wrong with the annotations at records `a` up to `ta` of a field whose type stands at records `ta` up to `te`, if there are any.
+fn check_annotations(
+    sheet: &[u8],
+    table: &[u16; 5122],
+    list: &mut [u8],
+    counts: Counts,
+    a: usize,
+    ta: usize,
+    te: usize,
+) -> Counts
+    ensures { λ r. ⌜ _≡_ {A = List ℕ × Counts} (now (list .exit), r) (pushFound (annotationsViolations (contextBy (now (table .entry)) (now (sheet .entry))) (viewOf (now (sheet .entry)) ta te) (viewOf (now (sheet .entry)) a ta)) (now (list .entry), counts)) ⌝ }
+{
+    if ta <= a {
+        return counts;
+    }
+    annotations::check_field_annotations(sheet, table, list, counts, a, ta, ta, te)
+}
+
+// Adds what is wrong with the condition at records `te` up to `e` of a field whose type stands at records `ta` up to `te`, if there is one.
+fn check_condition(
+    sheet: &[u8],
+    table: &[u16; 5122],
+    list: &mut [u8],
+    counts: Counts,
+    ta: usize,
+    te: usize,
+    e: usize,
+) -> Counts
+    ensures { λ r. ⌜ _≡_ {A = List ℕ × Counts} (now (list .exit), r) (pushFound (conditionViolations (contextBy (now (table .entry)) (now (sheet .entry))) (viewOf (now (sheet .entry)) ta te) (viewOf (now (sheet .entry)) te e)) (now (list .entry), counts)) ⌝ }
+{
+    if e <= te {
+        return counts;
+    }
+    conditions::validate_where_expr(sheet, table, list, counts, te, e, ta, te)
+}
 
 // Adds what is wrong with the type, the annotations and the condition of a field whose parts stand at records `a` up to `e`.
 pub fn check_field(
@@ -24,6 +62,6 @@ pub fn check_field(
     let ta = run_end(sheet, Run::Annotations, a, e);
     let te = run_end(sheet, Run::FieldType, ta, e);
     let counts = types::check_field_type(sheet, table, list, counts, ta, te);
-    let counts = annotations::check_field_annotations(sheet, table, list, counts, a, ta, ta, te);
-    conditions::validate_where_expr(sheet, table, list, counts, te, e, ta, te)
+    let counts = check_annotations(sheet, table, list, counts, a, ta, te);
+    check_condition(sheet, table, list, counts, ta, te, e)
 }

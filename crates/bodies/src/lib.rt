@@ -5,10 +5,10 @@ mod errors;
 mod field;
 mod flags;
 mod message;
+mod met;
 mod newtype;
 mod ordinal;
 mod runs;
-mod seen;
 mod unions;
 
 pub use declaration::check_declaration;

@@ -1,25 +1,27 @@
 // A field list: rules 1 to 30.
 ghost use mathlib.Core.Path.{_≡_};
 ghost use mathlib.Core.List.{List};
-ghost use Prim.Native.Nat.{ℕ, _<_, _≤_, _-_};
+ghost use Prim.Native.Nat.{ℕ, _<_, _≤_};
 ghost use Rattle.rules.specs.declared.answer.Counts.{Counts};
 ghost use Rattle.rules.specs.Kind;
-ghost use Rattle.rules.specs.Record.{is};
+ghost use Rattle.rules.specs.Record.{is, valueIn, recordBytes};
 ghost use Rattle.rules.specs.Rule.{foundIf};
 ghost use Rattle.rules.specs.Bodies.{fieldScheme, fieldListViolations};
 ghost use Rattle.names.specs.View.{viewAt, viewOf, contextBy};
 ghost use Rattle.diagnostic.specs.Push.{pushFound};
+ghost use Rattle.annotations.specs.Chains.{Ready};
 ghost use Rattle.bodies.specs.Ordinal.{memberFound};
 ghost use Rattle.bodies.specs.Items.{fieldFound};
 use crate::errors::error_if;
 use crate::field::check_field;
+use crate::met::chain_ordinals;
+use crate::met::has_ordinal;
+use crate::met::meet_name;
+use crate::met::meet_ordinal;
 use crate::ordinal::OrdinalRules;
 use crate::ordinal::check_ordinal;
 use crate::runs::Run;
 use crate::runs::run_end;
-use crate::seen::Seen;
-use crate::seen::collect;
-use crate::seen::contains;
 use rules::Counts;
 use rules::Sheet;
 use rules::Violation;
@@ -45,10 +47,12 @@ fn check_ordinal_and_name(
     list: &mut [u8],
     counts: Counts,
     i: usize,
+    ordinal: u64,
     tombstoned: bool,
     met: bool,
     renamed: bool,
 ) -> Counts
+    requires { ⌜ ordinal ≡ valueIn (recordBytes (now sheet) i) ⌝ }
     ensures { λ r. ⌜ _≡_ {A = List ℕ × Counts} (now (list .exit), r) (pushFound (memberFound fieldScheme tombstoned met renamed (viewAt (now (sheet .entry)) i)) (now (list .entry), counts)) ⌝ }
 {
     let rules = OrdinalRules {
@@ -57,7 +61,7 @@ fn check_ordinal_and_name(
         reused: Violation::OrdinalReusedAfterRemoved,
         duplicate: Violation::OrdinalDuplicate,
     };
-    let counts = check_ordinal(sheet, list, counts, i, rules, tombstoned, met);
+    let counts = check_ordinal(sheet, list, counts, i, ordinal, rules, tombstoned, met);
     error_if(
         list,
         counts,
@@ -67,49 +71,45 @@ fn check_ordinal_and_name(
     )
 }
 
-// Adds what is wrong with the field at record `i` of a list that ends at record `e`.
+// Adds what is wrong with the field at record `i`, whose parts end at record `end`.
 fn check_field_item(
     sheet: &[u8],
     table: &[u16; 5122],
     list: &mut [u8],
     counts: Counts,
     i: usize,
-    e: usize,
+    end: usize,
+    ordinal: u64,
     tombstoned: bool,
     met: bool,
     renamed: bool,
 ) -> Counts
-    requires { ⌜ i < e ⌝ }
-    ensures { λ r. ⌜ _≡_ {A = List ℕ × Counts} (now (list .exit), r) (pushFound (fieldFound (now (table .entry)) (now (sheet .entry)) i e tombstoned met renamed) (now (list .entry), counts)) ⌝ }
+    requires { ⌜ (i < end) × (ordinal ≡ valueIn (recordBytes (now sheet) i)) ⌝ }
+    ensures { λ r. ⌜ _≡_ {A = List ℕ × Counts} (now (list .exit), r) (pushFound (fieldFound (now (table .entry)) (now (sheet .entry)) i end tombstoned met renamed) (now (list .entry), counts)) ⌝ }
 {
-    let counts = check_ordinal_and_name(sheet, list, counts, i, tombstoned, met, renamed);
-    let end = run_end(sheet, Run::FieldItem, i + 1, e);
+    let counts = check_ordinal_and_name(sheet, list, counts, i, ordinal, tombstoned, met, renamed);
     check_field(sheet, table, list, counts, i + 1, end)
 }
 
-// Adds what is wrong with the field list at records `a` up to `e`. The ordinals met are those of all tombstones, and then those of the fields so
-// far; a name met is the number of its first record.
+// Adds what is wrong with the field list at records `a` up to `e`. The chains are lent: those of the tombstones and of the fields by their ordinals, which
+// share the links, and those of the fields by their names.
 pub fn check_message_body(
     sheet: &[u8],
     table: &[u16; 5122],
     list: &mut [u8],
     counts: Counts,
+    tombstones: &mut [u16; 512],
+    ordinals: &mut [u16; 512],
+    links: &mut [u16; 1024],
+    names: &mut [u16; 512],
+    name_links: &mut [u16; 1024],
     a: usize,
     e: usize,
 ) -> Counts
-    requires { ⌜ e - a ≤ 1024 ⌝ }
-    ensures { λ r. ⌜ _≡_ {A = List ℕ × Counts} (now (list .exit), r) (pushFound (fieldListViolations (contextBy (now (table .entry)) (now (sheet .entry))) (viewOf (now (sheet .entry)) a e)) (now (list .entry), counts)) ⌝ }
+    requires { ⌜ (a ≤ e) × (e ≤ 1024) × Ready (now tombstones) (now links) a × Ready (now ordinals) (now links) a × Ready (now names) (now «name_links») a ⌝ }
+    ensures { λ r. ⌜ _≡_ {A = List ℕ × Counts} (now (list .exit), r) (pushFound (fieldListViolations (contextBy (now (table .entry)) (now (sheet .entry))) (viewOf (now (sheet .entry)) a e)) (now (list .entry), counts)) × Ready (now (tombstones .exit)) (now (links .exit)) e × Ready (now (ordinals .exit)) (now (links .exit)) e × Ready (now (names .exit)) (now («name_links» .exit)) e ⌝ }
 {
-    let mut ordinals = Seen {
-        ordinals: [0; 1024],
-        len: 0,
-    };
-    let mut names = Seen {
-        ordinals: [0; 1024],
-        len: 0,
-    };
-    let tombstones = collect(sheet, a, e, kinds::FIELD_TOMBSTONE, &mut ordinals.ordinals);
-    ordinals.len = tombstones;
+    chain_ordinals(sheet, tombstones, links, kinds::FIELD_TOMBSTONE, a, e);
     let mut counts = counts;
     let mut i = a;
     while i < e {
@@ -119,16 +119,31 @@ pub fn check_message_body(
             continue;
         }
         let ordinal = sheet::value(sheet, i);
-        let name = names::id(table, i) as u64;
-        let tombstoned = contains(&ordinals.ordinals, tombstones, ordinal);
-        let met = contains(&ordinals.ordinals, ordinals.len, ordinal);
-        let renamed = contains(&names.ordinals, names.len, name);
-        ordinals.ordinals[ordinals.len] = ordinal;
-        ordinals.len += 1;
-        names.ordinals[names.len] = name;
-        names.len += 1;
-        counts = check_field_item(sheet, table, list, counts, i, e, tombstoned, met, renamed);
-        i += 1;
+        let tombstoned = has_ordinal(
+            sheet,
+            tombstones,
+            links,
+            kinds::FIELD_TOMBSTONE,
+            a,
+            e,
+            ordinal,
+        );
+        let met = meet_ordinal(sheet, ordinals, links, kinds::FIELD, a, i, ordinal);
+        let renamed = meet_name(sheet, table, names, name_links, kinds::FIELD, a, i);
+        let end = run_end(sheet, Run::FieldItem, i + 1, e);
+        counts = check_field_item(
+            sheet,
+            table,
+            list,
+            counts,
+            i,
+            end,
+            ordinal,
+            tombstoned,
+            met,
+            renamed,
+        );
+        i = end;
     }
     counts
 }
@@ -142,8 +157,25 @@ pub fn check_message(
     a: usize,
     e: usize,
 ) -> Counts
-    requires { ⌜ e - a ≤ 1024 ⌝ }
+    requires { ⌜ (a ≤ e) × (e ≤ 1024) ⌝ }
     ensures { λ r. ⌜ _≡_ {A = List ℕ × Counts} (now (list .exit), r) (pushFound (fieldListViolations (contextBy (now (table .entry)) (now (sheet .entry))) (viewOf (now (sheet .entry)) a e)) (now (list .entry), counts)) ⌝ }
 {
-    check_message_body(sheet, table, list, counts, a, e)
+    let mut tombstones: [u16; 512] = [0; 512];
+    let mut ordinals: [u16; 512] = [0; 512];
+    let mut links: [u16; 1024] = [0; 1024];
+    let mut names: [u16; 512] = [0; 512];
+    let mut name_links: [u16; 1024] = [0; 1024];
+    check_message_body(
+        sheet,
+        table,
+        list,
+        counts,
+        &mut tombstones,
+        &mut ordinals,
+        &mut links,
+        &mut names,
+        &mut name_links,
+        a,
+        e,
+    )
 }

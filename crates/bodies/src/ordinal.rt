@@ -3,6 +3,7 @@ ghost use mathlib.Core.Path.{_≡_};
 ghost use mathlib.Core.List.{List};
 ghost use Prim.Native.Nat.{ℕ};
 ghost use Rattle.rules.specs.declared.answer.Counts.{Counts};
+ghost use Rattle.rules.specs.Record.{valueIn, recordBytes};
 ghost use Rattle.bodies.specs.Ordinal.{pushOrdinal};
 use crate::errors::error_if;
 use rules::Counts;
@@ -15,8 +16,8 @@ pub struct OrdinalRules {
     pub duplicate: u16,
 }
 
-// Adds what is wrong with the ordinal of record `i`.
-pub fn check_ordinal(
+// Adds what is wrong with the ordinal of record `i`, test by test.
+fn tell_ordinal(
     sheet: &[u8],
     list: &mut [u8],
     counts: Counts,
@@ -32,4 +33,24 @@ pub fn check_ordinal(
     let counts = error_if(list, counts, over, span, rules.too_large);
     let counts = error_if(list, counts, tombstoned, span, rules.reused);
     error_if(list, counts, !tombstoned & met, span, rules.duplicate)
+}
+
+// Adds what is wrong with the ordinal of record `i`, which is that number.
+pub fn check_ordinal(
+    sheet: &[u8],
+    list: &mut [u8],
+    counts: Counts,
+    i: usize,
+    ordinal: u64,
+    rules: OrdinalRules,
+    tombstoned: bool,
+    met: bool,
+) -> Counts
+    requires { ⌜ ordinal ≡ valueIn (recordBytes (now sheet) i) ⌝ }
+    ensures { λ r. ⌜ _≡_ {A = List ℕ × Counts} (now (list .exit), r) (pushOrdinal rules (now (sheet .entry)) i tombstoned met (now (list .entry), counts)) ⌝ }
+{
+    if !tombstoned & !met & (ordinal <= rules.greatest) {
+        return counts;
+    }
+    tell_ordinal(sheet, list, counts, i, rules, tombstoned, met)
 }

@@ -2,7 +2,7 @@
 ghost use mathlib.Core.Path.{_≡_};
 ghost use Prim.Native.Nat.{_≤_};
 ghost use Rattle.names.specs.View.{viewAt};
-ghost use Rattle.bodies.specs.Runs.{inRun, EndsAt};
+ghost use Rattle.bodies.specs.Runs.{inRun, EndsAt, AllIn};
 use sheet::kinds;
 
 // The records before the head, of a field's annotations, of its type, of an item of a field list after its first, of an item of another body after its first.
@@ -30,7 +30,7 @@ fn is_in(sheet: &[u8], run: Run, i: usize) -> bool
 
 // The first record from `a` up to `e` that is not of the run.
 pub fn run_end(sheet: &[u8], run: Run, a: usize, e: usize) -> usize
-    ensures { λ r. ⌜ EndsAt run (now (sheet .entry)) a e r × (r ≤ e) ⌝ }
+    ensures { λ r. ⌜ EndsAt run (now (sheet .entry)) a e r × (r ≤ e) × (a ≤ e → a ≤ r) × AllIn run (now (sheet .entry)) a r ⌝ }
 {
     let mut i = a;
     while i < e {

@@ -24,5 +24,3 @@ run-end-spec =
     (λ c. search needs)
     (λ c. passed-next _ _ _ _ _ (c .before .before .before .loop .inv) _ (c .before .before .loop-test .taken) (c .before .is-in .ensures) (c .if1 .left))
     (λ c. passed-all _ _ _ _ _ (c .before .loop .inv) (c .loop-test .left)))
-
--- x
