@@ -42,7 +42,7 @@ const fn shape(
     }
 }
 
-pub const SHAPES: [Shape; 16] = [
+pub const SHAPES: [Shape; 17] = [
     shape("exercise", 50, exercise, "a message of a dozen fields"),
     shape("prefix", FULL, prefix, "511 fields, a common prefix"),
     shape("overlap", FULL, overlap, "511 names of 255 bytes"),
@@ -74,6 +74,7 @@ pub const SHAPES: [Shape; 16] = [
         variant_fields,
         "16 in each of 31 variants",
     ),
+    shape("collisions", FULL, collisions, "511 names of one bucket"),
 ];
 
 struct Maker {
@@ -254,6 +255,21 @@ fn prefix(maker: &mut Maker) {
     let ordinals = maker.ordered(count);
     for i in maker.ordered(count) {
         maker.field(&format!("the_prefix_that_is_the_same_{i:04}"), ordinals[i]);
+        maker.leaf();
+    }
+}
+
+/// Names of 31 bytes that the library's table cannot tell apart: it weighs the first eight, the eight in the middle and the last eight bytes, and
+/// they differ in others alone.
+fn collisions(maker: &mut Maker) {
+    maker.head(sub::HEAD_MESSAGE);
+    let count = (maker.most - 1) / 2;
+    let ordinals = maker.ordered(count);
+    for i in maker.ordered(count) {
+        maker.field(
+            &format!("the_same{i:03}_and_all_of_the_rest"),
+            ordinals[i],
+        );
         maker.leaf();
     }
 }
