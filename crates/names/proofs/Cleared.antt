@@ -1,38 +1,32 @@
--- A stretch of the table that is cleared from its place on, one store a turn: after the stores before place i, the table up to i is what stood
--- before the stretch, and zeros.
-use Prim.Native.Nat.{ℕ, _+_, _-_, _≤_, _<_}
-use native.Mathlib.Nat.{sub-self}
+-- A table that is cleared, one store a turn: after i stores its first i numbers are 0.
+use Prim.Native.Nat.{ℕ, _+_, _≤_, _<_}
 use native.Mathlib.Numerals.{add-one}
 use native.Mathlib.Omega.{arith}
-use mathlib.Core.Path.{_≡_, _∙_}
-use mathlib.Core.List.{List, _++_, append-assoc, append-nil}
+use mathlib.Core.Path.{_≡_, refl, _∙_, sym}
+use mathlib.Core.List.{List}
 use lib.ListN.{length, take, set, replicate, length-set, replicate-append-replicate}
-use lib.Seq.{take-suc-set}
+use lib.Seq.{take-suc-set, take-all}
 
--- the table t after the stores before place i, of which old is the table before the first
-pub record Cleared (from to : ℕ) (old t : List ℕ) (i : ℕ) : Type 0 where
-  pub after : from ≤ i
-  pub within : i ≤ to
+-- the table t after i stores
+pub record Cleared (t : List ℕ) (i : ℕ) : Type 0 where
+  pub within : i ≤ 5122
   pub size : length t ≡ 5122
-  pub front : take i t ≡ take from old ++ replicate (i - from) 0
+  pub front : take i t ≡ replicate i 0
 
-pub cleared-none : (from to : ℕ) (old : List ℕ) → length old ≡ 5122 → from ≤ to → Cleared from to old old from
-cleared-none from to old l h = record { after = omega arith; within = h; size = l; front = rw (sub-self, append-nil) }
+pub cleared-none : (t : List ℕ) → length t ≡ 5122 → Cleared t 0
+cleared-none t l = record { within = omega arith; size = l; front = refl }
 
-module _ (from to : ℕ) (old t : List ℕ) (i : ℕ) (before : Cleared from to old t i) where
-  pub cleared-more : to ≤ 5122 → i < to → Cleared from to old (set t i 0) (i + 1)
-  cleared-more room h =
-      let next : i + 1 - from ≡ i - from + 1 = omega arith in
-      let here : i < length t = omega arith in
+module _ (t : List ℕ) (i : ℕ) (before : Cleared t i) where
+  pub cleared-more : i < 5122 → Cleared (set t i 0) (i + 1)
+  cleared-more h =
+      let here : i < length t = omega (arith, before .size) in
       record {
-        after = omega arith;
         within = omega arith;
         size = length-set t i 0 ∙ before .size;
-        front =
-            rw (next, add-one i, take-suc-set t i 0 here, before .front, ← replicate-append-replicate {A = ℕ} (i - from) 1 0, append-assoc);
+        front = rw (← replicate-append-replicate {A = ℕ} i 1 0, add-one i, take-suc-set t i 0 here, before .front);
       }
 
-  pub cleared-all : to ≤ i → take to t ≡ take from old ++ replicate (to - from) 0
+  pub cleared-all : 5122 ≤ i → t ≡ replicate 5122 0
   cleared-all h =
-      let last : to ≡ i = omega arith in
-      rw last (before .front)
+      let last : i ≡ 5122 = omega (arith, before .within) in
+      sym (take-all 5122 t (omega (arith, before .size))) ∙ (rw last at (before .front))

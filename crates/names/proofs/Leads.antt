@@ -1,12 +1,12 @@
 -- A name's first record is found in the chain of its bucket: a record with the name has the same bytes, so it has the same bucket, and the chain
 -- has every first record of the bucket.
-use Prim.Native.Nat.{ℕ, suc, _+_, _-_, _≤_, _<_}
+use Prim.Native.Nat.{ℕ, suc, _+_, _-_, _/_, _≤_, _<_}
 use native.Mathlib.Decide.{decLt, ℕ-discrete}
 use native.Mathlib.Omega.{arith}
-use mathlib.Core.Path.{_≡_, sym, ap, _∙_}
+use mathlib.Core.Path.{_≡_, refl, sym, ap, _∙_}
 use mathlib.Core.Bool.{Bool, true, false}
 use mathlib.Core.List.{List}
-use lib.ListN.{getD, set, replicate, length-set, length-replicate}
+use lib.ListN.{length, getD, set, replicate, length-set, length-replicate}
 use lib.Seq.{getD-set-same, getD-set-other}
 use Rattle.rules.specs.declared.span.Span.{Span}
 use Rattle.rules.specs.Words.{sameBytes}
@@ -16,9 +16,9 @@ use Rattle.names.specs.Parts.{knownCount, recordOf}
 use Rattle.names.specs.Buckets.{bucketOf, Lead, LastLead, Chained}
 use Rattle.names.proofs.Columns.{zeros-at}
 use Rattle.names.proofs.Known.{known-few}
-use Rattle.names.proofs.Numbers.{names-compared}
+use Rattle.names.proofs.Numbers.{whole-known, names-compared}
 use Rattle.names.proofs.SameIds.{same-tells}
-use Rattle.names.proofs.Firsts.{idAt, id-unnamed, id-known, id-same-name, id-within, id-shared}
+use Rattle.names.proofs.Firsts.{idAt, id-known, id-same-name, id-within, id-shared}
 
 module _ (sheet names : List ℕ) where
   abbrev at : ℕ → Rec (List ℕ) Span
@@ -73,6 +73,12 @@ module _ (sheet names : List ℕ) where
       let few = known-few sheet in
       let l : LastLead sheet names (bucketAt i) i place = rw (e, ← eb) (chained .head b) in
       (omega arith, l .within, record { before = l .within; leads = l .leads; ahead = λ j g lead same. l .last j g lead })
+
+  -- the record at the place has a name
+  pub walk-named : (i place : ℕ) → Sought i place → (place ≡ 0 → ⊥) → (place - 1 < length sheet / 32) × (isNamed (at (place - 1)) ≡ true)
+  walk-named i place s some =
+      let here = s .leads (place - 1) (omega arith) in
+      (whole-known sheet (place - 1) (knownCount sheet) refl (here .known-record), here .named)
 
   -- a record of the chain with another name is passed
   pub sought-next :
@@ -206,26 +212,21 @@ module _ (sheet names : List ℕ) where
   bucket-of i b name en eb = rw (← en) eb
 
   -- what record i adds to the chains
-  module _ (heads links : List ℕ) (i : ℕ) (h : i < knownCount sheet) (few : i < 1024) (chained : Chained sheet names heads links i)
-      (named : Bool) (hn : named ≡ isNamed (at i)) where
-    pub added-unnamed : (r : ℕ) → named ≡ false → r ≡ i → (r ≡ id i) × Chained sheet names heads links (i + 1)
-    added-unnamed r f e = (
-      e ∙ sym (id-unnamed sheet names i (sym hn ∙ f)),
-      chained-kept heads links i chained (λ b lead.
-          let t = lead .named in
-          let z : _≡_ {A = ℕ} 0 1 = cc in
-          omega arith),
-    )
+  module _ (heads links : List ℕ) (i : ℕ) (h : i < knownCount sheet) (few : i < 1024) (chained : Chained sheet names heads links i) where
+    pub added-unnamed : isNamed (at i) ≡ false → Chained sheet names heads links (i + 1)
+    added-unnamed f =
+        chained-kept heads links i chained (λ b lead.
+        let t = lead .named in
+        let z : _≡_ {A = ℕ} 0 1 = cc in
+        omega arith)
 
-    module _ (named-true : named ≡ true) (found : ℕ) (hf : found ≡ id i) where
-      pub added-old : (r : ℕ) → (found ≡ i → ⊥) → r ≡ found → (r ≡ id i) × Chained sheet names heads links (i + 1)
-      added-old r old e = (e ∙ hf, chained-kept heads links i chained (λ b lead. old (hf ∙ lead .first)))
+    module _ (found : ℕ) (hf : found ≡ id i) where
+      pub added-old : (found ≡ i → ⊥) → Chained sheet names heads links (i + 1)
+      added-old old = chained-kept heads links i chained (λ b lead. old (hf ∙ lead .first))
 
       pub added-new :
-          (name : List ℕ) (b r p : ℕ) → name ≡ nameIn names (recordBytes sheet i) → b ≡ bucketOf name → b < 1024 → found ≡ i → p ≡ i + 1 → r ≡ i →
-          (r ≡ id i) × Chained sheet names (set heads b p) (set links i (getD heads b 0)) (i + 1)
-      unfolding recordOf decode
-      added-new name b r p en eb hb new ep e =
-          let lead : Lead sheet names b i =
-          record { known-record = h; named = sym hn ∙ named-true; bucket = ap bucketOf (sym en) ∙ sym eb; first = sym hf ∙ new } in
-          (e ∙ sym new ∙ hf, rw ep (chained-more heads links i chained b hb few lead))
+          (b p : ℕ) → isNamed (at i) ≡ true → b ≡ bucketAt i → b < 1024 → found ≡ i → p ≡ i + 1 →
+          Chained sheet names (set heads b p) (set links i (getD heads b 0)) (i + 1)
+      added-new b p named eb hb new ep =
+          let lead : Lead sheet names b i = record { known-record = h; named = named; bucket = sym eb; first = sym hf ∙ new } in
+          rw ep (chained-more heads links i chained b hb few lead)

@@ -3,7 +3,8 @@ pub mod Known
 pub mod Places
 pub mod Found
 pub mod Columns
-pub mod Filled
+pub mod Blocks
+pub mod Stored
 pub mod Cleared
 pub mod WordCodes
 pub mod Numbers
@@ -19,6 +20,6 @@ pub mod Firsts
 pub mod Weighed
 pub mod Leads
 pub mod Noting
-pub mod Gathered
-pub mod Ended
+pub mod Reading
+pub mod Spreading
 pub mod Renamed

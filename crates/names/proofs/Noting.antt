@@ -1,154 +1,199 @@
--- The notes are made from the last record to the first. A record of the kind that has a name is noted at its id, over what was noted there of a
--- later one; no other record changes what the notes say of those before it.
-use Prim.Native.Nat.{ℕ, _+_, _-_, _≤_, _<_}
+-- What is noted of the first records. A record that declares or imports its name is noted at the name's id: a declaration unless one was noted
+-- there before. No other record changes the notes.
+use Prim.Native.Nat.{ℕ, zero, suc, _+_, _<_}
+use native.Mathlib.Decide.{ℕ-discrete}
 use native.Mathlib.Omega.{arith}
+use native.Mathlib.Numerals.{add-one}
 use mathlib.Core.Path.{_≡_, refl, _∙_, sym, ap}
-use mathlib.Core.Bool.{Bool, true, false, _&&_}
-use mathlib.Core.List.{List, _++_}
-use lib.ListN.{length, getD, take, drop, set, replicate, length-set, getD-replicate}
-use lib.Seq.{take-set-le, take-take, take-at, getD-take, getD-append-add, getD-set-same, getD-set-other, length-take-le}
+use mathlib.Core.Bool.{Bool, true, false, _&&_, _||_, and-false}
+use mathlib.Core.List.{List, [], _∷_, _++_}
+use lib.ListN.{length, getD, take, set, length-set}
+use lib.Seq.{take-suc, length-take-le}
 use lib.Dec.{eqb}
-use borrow.Author.Tests.{eqb-true, eqb-false}
+use borrow.Author.Tests.{eq-eqb, ne-eqb}
 use Rattle.rules.specs.declared.span.Span.{Span}
-use Rattle.rules.specs.Record.{Rec, is}
+use Rattle.rules.specs.Kind
+use Rattle.rules.specs.Words.{numberIf, anyOf}
+use Rattle.rules.specs.Record.{Rec, decode, is, kindIn, recordBytes}
 use Rattle.names.specs.NameTable.{placeOf, isNamed, idIn}
-use Rattle.names.specs.Notes.{hasId, Noted}
-use Rattle.names.specs.Parts.{known, knownCount, recordOf, ids}
-use Rattle.names.proofs.Known.{known-few, length-known, known-at, known-drop, known-end}
-use Rattle.names.proofs.Numbers.{part-at}
-use Rattle.names.proofs.Places.{later, place-start, later-here, later-next}
-use Rattle.names.proofs.SameIds.{id-below, has-id}
+use Rattle.names.specs.Notes.{hasId, setFirst, declarationNote, importNote, Read}
+use Rattle.names.specs.Parts.{known, knownCount, recordOf}
+use Rattle.names.proofs.FirstPlaces.{oneOn}
+use Rattle.names.proofs.Known.{length-known, known-at}
+use Rattle.names.proofs.SameIds.{has-id}
+use Rattle.names.proofs.Stored.{part-same, part-set, part-ahead, part-behind}
 
--- what stands behind n numbers of the table
-behind : (n k : ℕ) (t a b : List ℕ) → length a ≡ n → take (n + 1024) t ≡ a ++ b → k < 1024 → getD t (n + k) 0 ≡ getD b k 0
-behind n k t a b l e h =
-    sym (getD-take (n + 1024) t (n + k) 0 (omega arith)) ∙ ap (λ (s : List ℕ). getD s (n + k) 0) e ∙ rw (← l) (getD-append-add a b k 0)
+-- a first place, where one more may be the first
+abbrev orElse : ℕ → ℕ → ℕ
+orElse zero v = v
+orElse (suc n) v = suc n
 
-module _ (sheet names t : List ℕ) (has : take 1024 t ≡ ids sheet names) (m : ℕ) (h : m < knownCount sheet) where
+module _ {A : Type 0} (p : A → Bool) (x : A) where
+  place-more : (xs : List A) → placeOf p (xs ++ (x ∷ [])) ≡ orElse (placeOf p xs) (numberIf (p x) (suc (length xs)))
+  unfolding placeOf
+  place-more [] = go (p x)
+    where
+      go : (b : Bool) → _≡_ {A = ℕ} (elim b [ true ↦ 1 | false ↦ 0 ]) (numberIf b 1)
+      go true = refl
+      go false = refl
+  place-more (y ∷ xs) = go (p y) (p x) (placeOf p xs) (length xs) (placeOf p (xs ++ (x ∷ []))) (place-more xs)
+    where
+      go :
+          (b c : Bool) (m l r : ℕ) → r ≡ orElse m (numberIf c (suc l)) →
+          _≡_ {A = ℕ} (elim b [ true ↦ 1 | false ↦ oneOn r ]) (orElse (elim b [ true ↦ 1 | false ↦ oneOn m ]) (numberIf c (suc (suc l))))
+      go true c m l r e = refl
+      go false true zero l r e = ap oneOn e
+      go false false zero l r e = ap oneOn e
+      go false c (suc m) l r e = ap oneOn e
+
+  any-more : (xs : List A) → anyOf p (xs ++ (x ∷ [])) ≡ (p x || anyOf p xs)
+  unfolding anyOf
+  any-more [] = refl
+  any-more (y ∷ xs) = ap (p y ||_) (any-more xs) ∙ go (p y) (p x) (anyOf p xs)
+    where
+      go : (b c d : Bool) → (b || (c || d)) ≡ (c || (b || d))
+      go true true d = refl
+      go true false d = refl
+      go false c d = refl
+
+-- a number is stored only where there is 0
+module _ (t : List ℕ) (p v : ℕ) where
+  pub first-kept : (getD t p 0 ≡ 0 → ⊥) → t ≡ setFirst t p v
+  unfolding setFirst
+  first-kept some = go (getD t p 0) some
+    where
+      go : (n : ℕ) → (n ≡ 0 → ⊥) → t ≡ elim n [ zero ↦ set t p v | suc m ↦ t ]
+      go zero f = absurd (f refl)
+      go (suc n) f = refl
+
+  pub first-set : (w : ℕ) → w ≡ v → getD t p 0 ≡ 0 → set t p w ≡ setFirst t p v
+  unfolding setFirst
+  first-set w e none = ap (set t p) e ∙ go (getD t p 0) none
+    where
+      go : (n : ℕ) → n ≡ 0 → set t p v ≡ elim n [ zero ↦ set t p v | suc m ↦ t ]
+      go zero f = refl
+      go (suc n) f = absurd (omega arith)
+
+module _ (sheet names : List ℕ) (m : ℕ) (h : m < knownCount sheet) where
   abbrev rs : List (Rec (List ℕ) Span)
   rs = known sheet names
 
   abbrev r : Rec (List ℕ) Span
   r = recordOf sheet names m
 
-  -- the table has the record's id
-  pub id-at : getD t m 0 ≡ idIn rs m r
-  unfolding ids
-  id-at =
-      let few = known-few sheet in
-      sym (getD-take 1024 t m 0 (omega arith))
-      ∙ ap (λ (s : List ℕ). getD s m 0) has
-      ∙ sym (part-at sheet names m (knownCount sheet) refl (idIn rs) (idIn rs m r) few h refl)
+  one-more : take (m + 1) rs ≡ take m rs ++ (r ∷ [])
+  one-more = rw (add-one, take-suc rs m r (rw length-known h), known-at sheet names m r h)
 
-  pub id-small : getD t m 0 < 1024
-  id-small =
-      let few = known-few sheet in
-      let below = id-below rs r m (rw length-known h) in
-      rw id-at (omega (arith, rw (known-at sheet names m r h, length-known) at below))
+  length-front : length (take m rs) ≡ m
+  length-front = length-take-le m rs (rw length-known (omega arith))
 
--- the table t, of which the records from record m on are noted; old is the table before the first note
-pub record NotedFrom (kind : ℕ) (sheet names old t : List ℕ) (m : ℕ) : Type 0 where
-  pub size : length t ≡ 5122
-  pub kept : take 3072 t ≡ take 3072 old
-  pub front : take 1024 t ≡ ids sheet names
-  pub places : (k : ℕ) → k < 1024 → getD t (3072 + k) 0 ≡ later m (placeOf (hasId kind (known sheet names) k) (drop m (known sheet names)))
+  declaration-more : (k : ℕ) → declarationNote sheet names (m + 1) k ≡ orElse (declarationNote sheet names m k) (numberIf (hasId Kind.Declaration rs k r) (suc m))
+  unfolding declarationNote
+  declaration-more k = rw (one-more, place-more (hasId Kind.Declaration rs k) r (take m rs), length-front)
 
--- the table t, whose notes are cleared; old is the table before
-module _ (old t : List ℕ) (l : length old ≡ 5122) (cleared : take 4096 t ≡ take 3072 old ++ replicate 1024 0) where
-  pub cleared-kept : take 3072 t ≡ take 3072 old
-  cleared-kept =
-      sym (take-take 3072 4096 t (omega arith)) ∙ ap (take 3072) cleared ∙ take-at (take 3072 old) (replicate 1024 0) 3072 (length-take-le 3072 old (omega arith))
+  import-more : (k : ℕ) → importNote sheet names (m + 1) k ≡ numberIf (hasId Kind.ImportedName rs k r || anyOf (hasId Kind.ImportedName rs k) (take m rs)) 1
+  unfolding importNote
+  import-more k = rw (one-more, any-more (hasId Kind.ImportedName rs k) r (take m rs))
 
-  pub noted-none :
-      (kind : ℕ) (sheet names : List ℕ) (n : ℕ) → length t ≡ 5122 → take 1024 old ≡ ids sheet names → n ≡ knownCount sheet →
-      NotedFrom kind sheet names t t (n - 0)
-  unfolding later placeOf
-  noted-none kind sheet names n lt has e =
-      record {
-        size = lt;
-        kept = refl;
-        front =
-            sym (take-take 1024 3072 t (omega arith)) ∙ ap (take 1024) cleared-kept ∙ take-take 1024 3072 old (omega arith) ∙ has;
-        places = λ k h.
-            behind 3072 k t (take 3072 old) (replicate 1024 0) (length-take-le 3072 old (omega arith)) cleared h
-            ∙ getD-replicate 1024 k 0 0 h
-            ∙ sym (rw (known-end sheet names (n - 0) (omega arith)));
-      }
-
-module _ (kind : ℕ) (sheet names old t : List ℕ) (m : ℕ) (before : NotedFrom kind sheet names old t (m + 1)) (h : m < knownCount sheet)
-    (test : Bool) (e : test ≡ (is kind (recordOf sheet names m) && isNamed (recordOf sheet names m))) where
-  abbrev all : List (Rec (List ℕ) Span)
-  all = known sheet names
-
-  abbrev here : Rec (List ℕ) Span
-  here = recordOf sheet names m
-
-  has-test : (k : ℕ) → hasId kind all k here ≡ (test && eqb (getD t m 0) k)
-  has-test k =
-      rw (e, id-at sheet names t (before .front) m h, ← known-at sheet names m here h) (has-id all here m (rw length-known h) kind k)
-
-  next : (k : ℕ) → hasId kind all k here ≡ false → later m (placeOf (hasId kind all k) (drop m all)) ≡ later (m + 1) (placeOf (hasId kind all k) (drop (m + 1) all))
-  next k = later-next (hasId kind all k) all m here (drop (m + 1) all) (known-drop sheet names m h)
-
-  noted-other : test ≡ false → NotedFrom kind sheet names old t m
-  noted-other f =
-      record {
-        size = before .size;
-        kept = before .kept;
-        front = before .front;
-        places = λ k l. before .places k l ∙ sym (next k (has-test k ∙ rw f));
-      }
-
-  noted-more : test ≡ true → NotedFrom kind sheet names old (set t (3072 + getD t m 0) (m + 1)) m
-  noted-more f =
-      let small = id-small sheet names t (before .front) m h in
-      record {
-        size = length-set t place (m + 1) ∙ before .size;
-        kept = take-set-le 3072 t place (m + 1) (omega arith) ∙ before .kept;
-        front = take-set-le 1024 t place (m + 1) (omega arith) ∙ before .front;
-        places = λ k l. at k l (eqb (getD t m 0) k) refl (omega (arith, before .size));
-      }
+  -- a record that says nothing of the name
+  declaration-kept : (k : ℕ) → hasId Kind.Declaration rs k r ≡ false → declarationNote sheet names m k ≡ declarationNote sheet names (m + 1) k
+  declaration-kept k f = sym (declaration-more k ∙ rw f (none (declarationNote sheet names m k)))
     where
-      place : ℕ
-      place = 3072 + getD t m 0
+      none : (n : ℕ) → orElse n 0 ≡ n
+      none zero = refl
+      none (suc n) = refl
 
-      at :
-          (k : ℕ) → k < 1024 → (b : Bool) → eqb (getD t m 0) k ≡ b → place < length t →
-          getD (set t place (m + 1)) (3072 + k) 0 ≡ later m (placeOf (hasId kind all k) (drop m all))
-      at k l true same room =
-          let there : 3072 + k ≡ place = ap (λ (n : ℕ). 3072 + n) (sym (eqb-true (getD t m 0) k same)) in
-          ap (λ (n : ℕ). getD (set t place (m + 1)) n 0) there
-          ∙ getD-set-same t place (m + 1) 0 room
-          ∙ sym (later-here (hasId kind all k) all m here (drop (m + 1) all) (known-drop sheet names m h) (has-test k ∙ rw (f, same)))
-      at k l false other room =
-          getD-set-other t place (3072 + k) (m + 1) 0 (λ there. eqb-false (getD t m 0) k other (omega arith))
-          ∙ before .places k l
-          ∙ sym (next k (has-test k ∙ rw (f, other)))
+  import-kept : (k : ℕ) → hasId Kind.ImportedName rs k r ≡ false → importNote sheet names m k ≡ importNote sheet names (m + 1) k
+  unfolding importNote
+  import-kept k f = sym (import-more k ∙ rw f)
 
--- a turn of the loop, which notes record n - 1 - j
-module _ (kind : ℕ) (sheet names old t : List ℕ) (n j : ℕ) (hn : n ≡ knownCount sheet) (before : NotedFrom kind sheet names old t (n - j)) where
-  pub turn-small : j < n → getD t (n - 1 - j) 0 < 1024
-  turn-small l = id-small sheet names t (before .front) (n - 1 - j) (omega arith)
+  -- what the record says of the name with id k
+  has-test : (kind k : ℕ) → hasId kind rs k r ≡ ((is kind r && isNamed r) && eqb (idIn rs m r) k)
+  has-test kind k = rw (← known-at sheet names m r h) (has-id rs r m (rw length-known h) kind k)
 
-  module _ (l : j < n) (test : Bool)
-      (e : test ≡ (is kind (recordOf sheet names (n - 1 - j)) && isNamed (recordOf sheet names (n - 1 - j)))) (t′ : List ℕ) where
-    here-noted : NotedFrom kind sheet names old t (n - 1 - j + 1)
-    here-noted =
-        let up : n - j ≡ n - 1 - j + 1 = omega arith in
-        rw up at before
+  pub unnamed-silent : isNamed r ≡ false → (kind k : ℕ) → hasId kind rs k r ≡ false
+  unnamed-silent f kind k = has-test kind k ∙ rw (f, and-false)
 
-    pub turn-more : test ≡ true → t′ ≡ set t (3072 + getD t (n - 1 - j) 0) (n - 1 - j + 1) → NotedFrom kind sheet names old t′ (n - (j + 1))
-    turn-more f s =
-        let down : n - (j + 1) ≡ n - 1 - j = omega arith in
-        rw (down, s) (noted-more kind sheet names old t (n - 1 - j) here-noted (omega arith) test e f)
+  pub kind-silent : (kind : ℕ) → is kind r ≡ false → (k : ℕ) → hasId kind rs k r ≡ false
+  kind-silent kind f k = has-test kind k ∙ rw f
 
-    pub turn-other : test ≡ false → t′ ≡ t → NotedFrom kind sheet names old t′ (n - (j + 1))
-    turn-other f s =
-        let down : n - (j + 1) ≡ n - 1 - j = omega arith in
-        rw (down, s) (noted-other kind sheet names old t (n - 1 - j) here-noted (omega arith) test e f)
+  other-silent : (kind k id : ℕ) → id ≡ idIn rs m r → (id ≡ k → ⊥) → hasId kind rs k r ≡ false
+  other-silent kind k id e differ = has-test kind k ∙ rw (ne-eqb (idIn rs m r) k (λ same. differ (e ∙ same)), and-false)
 
-  pub noted-all : n ≤ j → Noted kind sheet names t
-  noted-all l =
-      let none : n - j ≡ 0 = omega arith in
-      let from : NotedFrom kind sheet names old t 0 = rw none at before in
-      record { places = λ k h. from .places k h ∙ sym (place-start (hasId kind (known sheet names) k) (known sheet names)) }
+  says : (kind id : ℕ) → is kind r ≡ true → isNamed r ≡ true → id ≡ idIn rs m r → hasId kind rs id r ≡ true
+  says kind id f named e = has-test kind id ∙ rw (f, named, eq-eqb (idIn rs m r) id (sym e))
+
+  module _ (t : List ℕ) (a : ℕ) (before : Read sheet names t a m) where
+    pub noted-none :
+        ((k : ℕ) → hasId Kind.Declaration rs k r ≡ false) → ((k : ℕ) → hasId Kind.ImportedName rs k r ≡ false) → Read sheet names t a (m + 1)
+    noted-none d i =
+        record {
+          size = before .size;
+          ids-part = before .ids-part;
+          declaration-notes = part-same (before .declaration-notes) (λ k l. declaration-kept k (d k));
+          import-notes = part-same (before .import-notes) (λ k l. import-kept k (i k));
+          targets-part = before .targets-part;
+          codes-part = before .codes-part;
+        }
+
+    module _ (id : ℕ) (small : id < 1024) (named : isNamed r ≡ true) (e : id ≡ idIn rs m r) where
+      pub noted-declaration :
+          is Kind.Declaration r ≡ true → is Kind.ImportedName r ≡ false → (t′ : List ℕ) → t′ ≡ setFirst t (1024 + id) (m + 1) →
+          Read sheet names t′ a (m + 1)
+      unfolding setFirst
+      noted-declaration d i t′ stored = rw stored (go (getD t (1024 + id) 0) refl)
+        where
+          more : (n : ℕ) → getD t (1024 + id) 0 ≡ n → declarationNote sheet names (m + 1) id ≡ orElse n (suc m)
+          more n g =
+              declaration-more id
+              ∙ rw (says Kind.Declaration id d named e, ← before .declaration-notes .at id small, g)
+
+          same : (n : ℕ) → getD t (1024 + id) 0 ≡ suc n → (k : ℕ) → Dec (id ≡ k) → declarationNote sheet names m k ≡ declarationNote sheet names (m + 1) k
+          same n g k (no differ) = declaration-kept k (other-silent Kind.Declaration k id e differ)
+          same n g k (yes here) = rw (← here) (sym (before .declaration-notes .at id small) ∙ g ∙ sym (more (suc n) g))
+
+          go : (n : ℕ) → getD t (1024 + id) 0 ≡ n → Read sheet names (elim n [ zero ↦ set t (1024 + id) (m + 1) | suc l ↦ t ]) a (m + 1)
+          go zero g =
+              record {
+                size = length-set t (1024 + id) (m + 1) ∙ before .size;
+                ids-part = part-behind (before .ids-part) (1024 + id) (m + 1) (omega arith);
+                declaration-notes = part-set (before .declaration-notes) id (m + 1) (omega (arith, before .size))
+                    (λ k l differ. declaration-kept k (other-silent Kind.Declaration k id e differ)) (add-one m ∙ sym (more zero g));
+                import-notes = part-same (part-ahead (before .import-notes) (1024 + id) (m + 1) (omega arith))
+                    (λ k l. import-kept k (kind-silent Kind.ImportedName i k));
+                targets-part = part-ahead (before .targets-part) (1024 + id) (m + 1) (omega arith);
+                codes-part = part-ahead (before .codes-part) (1024 + id) (m + 1) (omega arith);
+              }
+          go (suc n) g =
+              record {
+                size = before .size;
+                ids-part = before .ids-part;
+                declaration-notes = part-same (before .declaration-notes) (λ k l. same n g k (ℕ-discrete id k));
+                import-notes = part-same (before .import-notes) (λ k l. import-kept k (kind-silent Kind.ImportedName i k));
+                targets-part = before .targets-part;
+                codes-part = before .codes-part;
+              }
+
+      pub noted-import : is Kind.ImportedName r ≡ true → is Kind.Declaration r ≡ false → Read sheet names (set t (2048 + id) 1) a (m + 1)
+      noted-import i d =
+          record {
+            size = length-set t (2048 + id) 1 ∙ before .size;
+            ids-part = part-behind (before .ids-part) (2048 + id) 1 (omega arith);
+            declaration-notes = part-same (part-behind (before .declaration-notes) (2048 + id) 1 (omega arith))
+                (λ k l. declaration-kept k (kind-silent Kind.Declaration d k));
+            import-notes = part-set (before .import-notes) id 1 (omega (arith, before .size))
+                (λ k l differ. import-kept k (other-silent Kind.ImportedName k id e differ))
+                (sym (import-more id ∙ rw (says Kind.ImportedName id i named e)));
+            targets-part = part-ahead (before .targets-part) (2048 + id) 1 (omega arith);
+            codes-part = part-ahead (before .codes-part) (2048 + id) 1 (omega arith);
+          }
+
+  -- the record's kind, as it is read
+  module _ (kind : ℕ) (e : kind ≡ kindIn (recordBytes sheet m)) where
+    pub kind-is : (k : ℕ) → kind ≡ k → is k r ≡ true
+    unfolding recordOf decode
+    kind-is k f = eq-eqb (kindIn (recordBytes sheet m)) k (sym e ∙ f)
+
+    pub kind-is-not : (k : ℕ) → (kind ≡ k → ⊥) → is k r ≡ false
+    unfolding recordOf decode
+    kind-is-not k f = ne-eqb (kindIn (recordBytes sheet m)) k (λ same. f (e ∙ same))

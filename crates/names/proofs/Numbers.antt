@@ -2,17 +2,18 @@
 -- `return`.
 use Prim.Native.Nat.{ℕ, _+_, _-_, _*_, _/_, _≤_, _<_}
 use mathlib.Core.Path.{_≡_, _∙_, sym}
-use mathlib.Core.Bool.{Bool, true, false, _&&_}
+use mathlib.Core.Bool.{Bool, true, false}
 use mathlib.Core.List.{List}
 use native.Mathlib.Omega.{arith}
 use lib.ListN.{length, getD, take, drop}
 use lib.Seq.{take-take}
-use lib.Dec.{leb, eqb}
-use borrow.Author.Tests.{le-leb, lt-leb, eq-eqb, ne-eqb}
+use lib.Dec.{leb}
+use borrow.Author.Tests.{leb-true, le-leb, lt-leb}
+use Rattle.rules.proofs.Lists.{and-left, and-right}
 use Rattle.rules.specs.declared.span.Span.{Span}
-use Rattle.rules.specs.Words.{numberIf, sameBytes}
-use Rattle.rules.specs.Record.{Rec, decode, recordBytes, isNamedIn, fitsIn, nameIn, nameOffset, nameLength}
-use Rattle.names.specs.NameTable.{column, isNamed, sameName, codeOf}
+use Rattle.rules.specs.Words.{sameBytes}
+use Rattle.rules.specs.Record.{Rec, decode, recordBytes, kindIn, isNamedIn, fitsIn, nameIn, nameOffset, nameLength}
+use Rattle.names.specs.NameTable.{column, isNamed, sameName}
 use Rattle.names.specs.Parts.{known, knownCount, recordOf}
 use Rattle.names.proofs.Known.{length-known, known-at}
 use Rattle.names.proofs.Columns.{column-at}
@@ -30,14 +31,6 @@ module _ (sheet : List ℕ) (n : ℕ) (h : n ≡ length sheet / 32) where
 pub whole-known : (sheet : List ℕ) (i n : ℕ) → n ≡ knownCount sheet → i < n → i < length sheet / 32
 unfolding knownCount
 whole-known sheet i n h l = omega arith
-
--- a test on the kind, and another test
-module _ (kind read k : ℕ) (h : read ≡ kind) (test : Bool) where
-  pub both-tests : (r : Bool) → read ≡ k → r ≡ test → r ≡ (eqb kind k && test)
-  both-tests r e hr = rw (eq-eqb kind k (sym h ∙ e)) hr
-
-  pub kind-differs : (read ≡ k → ⊥) → false ≡ (eqb kind k && test)
-  kind-differs e = rw (ne-eqb kind k (λ f. e (h ∙ f)))
 
 -- two records with names, whose names are compared
 module _ (sheet names : List ℕ) (i j : ℕ) (first : isNamed (recordOf sheet names i) ≡ true) (second : isNamed (recordOf sheet names j) ≡ true) where
@@ -59,9 +52,6 @@ module _ (sheet names : List ℕ) (i : ℕ) (has : Bool) (h : has ≡ isNamedIn 
   unfolding recordOf decode
   named-none f = rw (sym h ∙ f)
 
-  pub code-unnamed : has ≡ false → 0 ≡ numberIf (isNamed (recordOf sheet names i)) (codeOf (recordOf sheet names i .name))
-  code-unnamed f = rw (← named-none f)
-
   module _ (t : has ≡ true) (start len : ℕ) (hs : start ≡ nameOffset (recordBytes sheet i)) (hl : len ≡ nameLength (recordBytes sheet i)) where
     pub named-unfit : length names < start + len → false ≡ isNamed (recordOf sheet names i)
     unfolding recordOf decode fitsIn
@@ -75,28 +65,43 @@ module _ (sheet names : List ℕ) (i : ℕ) (has : Bool) (h : has ≡ isNamedIn 
         let within : leb (start + len) (length names) ≡ true = le-leb (start + len) (length names) l in
         rw (sym h ∙ t, ← hs, ← hl, within)
 
-    pub code-unfit : length names < start + len → 0 ≡ numberIf (isNamed (recordOf sheet names i)) (codeOf (recordOf sheet names i .name))
-    code-unfit l = rw (← named-unfit l)
+-- the name of a record that has one that fits
+module _ (sheet names : List ℕ) (i : ℕ) (named : isNamed (recordOf sheet names i) ≡ true) (start len : ℕ)
+    (hs : start ≡ nameOffset (recordBytes sheet i)) (hl : len ≡ nameLength (recordBytes sheet i)) where
+  has : isNamedIn (recordBytes sheet i) ≡ true
+  unfolding recordOf decode
+  has = and-left (isNamedIn (recordBytes sheet i)) (fitsIn names (recordBytes sheet i)) named
 
-    pub code-named : (v : ℕ) → start + len ≤ length names → v ≡ codeOf (take (start + len - start) (drop start names)) → v ≡ numberIf (isNamed (recordOf sheet names i)) (codeOf (recordOf sheet names i .name))
-    unfolding recordOf decode fitsIn nameIn
-    code-named v l hv =
-        let within : leb (start + len) (length names) ≡ true = le-leb (start + len) (length names) l in
-        let size : start + len - start ≡ len = omega arith in
-        rw (sym h ∙ t, ← hs, ← hl, within) (rw size at hv)
+  fit : leb (start + len) (length names) ≡ true
+  unfolding recordOf decode fitsIn
+  fit =
+      let fits = and-right (isNamedIn (recordBytes sheet i)) (fitsIn names (recordBytes sheet i)) named in
+      rw (hs, hl) (rw has at fits)
+
+  pub name-fits : start + len ≤ length names
+  name-fits = leb-true (start + len) (length names) fit
+
+  pub name-read : take (start + len - start) (drop start names) ≡ nameIn names (recordBytes sheet i)
+  unfolding nameIn
+  name-read =
+      let size : start + len - start ≡ len = omega arith in
+      rw (size, has, ← hs, ← hl, fit)
 
 -- a record is the first of its own bytes
 module _ (sheet names own : List ℕ) (i : ℕ) (e : own ≡ recordBytes sheet i) where
   own-bytes : recordBytes own 0 ≡ recordBytes sheet i
   own-bytes = rw (e, take-take 32 32 (drop (32 * i) sheet) (omega arith))
 
-  pub own-record : (v : ℕ) → v ≡ numberIf (isNamed (recordOf own names 0)) (codeOf (recordOf own names 0 .name)) → v ≡ numberIf (isNamed (recordOf sheet names i)) (codeOf (recordOf sheet names i .name))
-  unfolding recordOf
-  own-record v hv = rw own-bytes at hv
-
   pub own-named : (named : Bool) → named ≡ isNamed (recordOf own names 0) → named ≡ isNamed (recordOf sheet names i)
   unfolding recordOf
   own-named named h = rw own-bytes at h
 
+  pub named-own : isNamed (recordOf sheet names i) ≡ true → isNamed (recordOf own names 0) ≡ true
+  unfolding recordOf
+  named-own h = rw own-bytes h
+
   pub own-name : (name : List ℕ) → name ≡ nameIn names (recordBytes own 0) → name ≡ nameIn names (recordBytes sheet i)
   own-name name h = rw own-bytes at h
+
+  pub own-kind : (kind : ℕ) → kind ≡ kindIn (recordBytes own 0) → kind ≡ kindIn (recordBytes sheet i)
+  own-kind kind h = rw own-bytes at h

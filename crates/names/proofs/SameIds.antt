@@ -45,13 +45,6 @@ module _ {P : Type 0} where
     unfolding idIn
     unnamed-id h = rw (unnamed-place r h rs, idIn)
 
-    pub id-below : id < length rs
-    id-below = go (isNamed r) refl
-      where
-        go : (b : Bool) → isNamed r ≡ b → id < length rs
-        go true h = place-passes (sameName r) d rs id (id-place rs d i l h) .0
-        go false h = rw (unnamed-id h) l
-
     pub has-id : (kind k : ℕ) → hasId kind rs k r ≡ ((is kind r && isNamed r) && eqb id k)
     unfolding hasId
     has-id kind k = go (isNamed r) refl

@@ -1,22 +1,18 @@
 -- The type that stands directly after a newtype: two records are there, or there is none.
 use Prim.Native.Nat.{ℕ, zero, suc, _+_, _-_, _≤_, _<_}
-use mathlib.Core.Path.{_≡_, refl, _∙_, sym, ap}
+use mathlib.Core.Path.{_≡_, refl, _∙_, sym}
 use mathlib.Core.Bool.{Bool, true, false}
-use mathlib.Core.List.{List, [], _∷_, _++_}
+use mathlib.Core.List.{List, [], _∷_}
 use native.Mathlib.Numerals.{add-one}
 use native.Mathlib.Omega.{arith}
-use lib.ListN.{length, getD, take, drop, length-append, length-drop, List·getD-append}
-use lib.Seq.{getD-take, getD-append-add, length-take-le}
+use lib.ListN.{length, drop, length-drop}
 use borrow.Author.Tests.{eq-eqb, ne-eqb}
 use Rattle.rules.specs.declared.span.Span.{Span}
 use Rattle.rules.specs.Kind
 use Rattle.rules.specs.Record.{Rec, decode, kindIn, subIn, recordBytes}
-use Rattle.names.specs.NameTable.{targetAt, declarationIn, targetIn}
-use Rattle.names.specs.Parts.{known, knownCount, recordOf, targetOf, ids, declarations, imported, targets}
-use Rattle.names.proofs.Columns.{length-ids, length-declarations}
-use Rattle.names.proofs.Filled.{Filled}
+use Rattle.names.specs.NameTable.{targetAt}
+use Rattle.names.specs.Parts.{known, knownCount, recordOf, targetOf}
 use Rattle.names.proofs.Known.{length-known, known-drop}
-use Rattle.names.proofs.Numbers.{part-at}
 
 -- fewer than two records have no type
 too-few : (place : ℕ) (rs : List (Rec (List ℕ) Span)) → length rs ≤ 1 → 0 ≡ targetAt place rs
@@ -61,28 +57,3 @@ target-at sheet zero v n e names = absurd (n refl)
 target-at sheet (suc m) v n e names =
     let less : suc m - 1 ≡ m = omega arith in
     rw less at (e names)
-
--- the type of a record's name, from the declaration that the table has; t is the table after i stores into the part
-module _ (sheet names old t : List ℕ) (i : ℕ) (l : length old ≡ 5122)
-    (front : take 3072 old ≡ ids sheet names ++ declarations sheet names ++ imported sheet names)
-    (before : Filled 3072 (targets sheet names) old t i) where
-  declaration-kept : i < 1024 → getD t (1024 + i) 0 ≡ getD (declarations sheet names) i 0
-  declaration-kept h =
-      sym (getD-take (3072 + i) t (1024 + i) 0 (omega arith))
-      ∙ ap (λ (s : List ℕ). getD s (1024 + i) 0) (before .front)
-      ∙ List·getD-append (take 3072 old) (take i (targets sheet names)) 0 (1024 + i) (rw (length-take-le 3072 old (omega arith)) (omega arith))
-      ∙ ap (λ (s : List ℕ). getD s (1024 + i) 0) front
-      ∙ List·getD-append (ids sheet names ++ declarations sheet names) (imported sheet names) 0 (1024 + i)
-      (rw (length-append, length-ids, length-declarations) (omega arith))
-      ∙ rw (← length-ids sheet names) (getD-append-add (ids sheet names) (declarations sheet names) i 0)
-
-  pub target-read :
-      (n : ℕ) → n ≡ knownCount sheet → n ≤ 1024 → i < n → (place v : ℕ) → place ≡ getD t (1024 + i) 0 →
-      ((others : List ℕ) → v ≡ targetOf (known sheet others) place) → v ≡ getD (targets sheet names) i 0
-  unfolding targets targetIn declarations
-  target-read n e few h place v ep ev =
-      let rs = known sheet names in
-      let r = recordOf sheet names i in
-      let declared = part-at sheet names i n e (λ i r. declarationIn rs r) (declarationIn rs r) few h refl in
-      part-at sheet names i n e (λ i r. targetIn rs r) v few h
-      (ev names ∙ ap (targetOf rs) (ep ∙ declaration-kept (omega arith) ∙ sym declared))

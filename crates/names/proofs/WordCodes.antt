@@ -5,13 +5,13 @@ use mathlib.Core.Bool.{Bool, true, false, _||_}
 use mathlib.Core.List.{List, [], _∷_}
 use native.Mathlib.Omega.{arith}
 use lib.Dec.{eqb}
-use lib.ListN.{length, getD, take, drop}
+use lib.ListN.{length, getD}
 use borrow.Author.Tests.{eqb-false, ne-eqb}
 use Rattle.rules.specs.Words.{numberIf, sameBytes}
-use Rattle.rules.specs.Context.{words, wordFrom, startsName, validFieldName, isBlank}
-use Rattle.sheet.proofs.Windows.{neither, part-continues, bad-start, good-start}
+use Rattle.rules.specs.Context.{words, wordFrom, validFieldName, isBlank}
+use Rattle.sheet.proofs.Windows.{neither}
 use Rattle.names.specs.NameTable.{codeOf}
-use Rattle.names.specs.Code.{startsWord, GoesOn}
+use Rattle.names.specs.Code.{startsWord}
 
 module _ (n : ℕ) (w : List ℕ) (ws : List (List ℕ)) (name : List ℕ) (same : Bool) (h : same ≡ sameBytes w name) where
   pub word-here : same ≡ true → n ≡ wordFrom n (w ∷ ws) name
@@ -49,17 +49,6 @@ other-word b name h =
 pub no-word : (name : List ℕ) (first : Bool) → 0 < length name → first ≡ startsWord (getD name 0 0) → first ≡ false → 0 ≡ wordFrom 1 words name
 no-word [] first l h f = absurd (omega arith)
 no-word (b ∷ name) first l h f = other-word b name (sym h ∙ f)
-
--- a name whose bytes all go on is valid if its first may start it
-pub clean-valid : (name : List ℕ) (first : Bool) → GoesOn name → 0 < length name → first ≡ startsName (getD name 0 0) → first ≡ validFieldName name
-unfolding GoesOn
-clean-valid name true g l h = good-start name true true (λ e. omega arith) h refl (sym g)
-clean-valid name false g l h = bad-start name false h refl
-
--- and each part of a text does so if the text does
-pub part-goes-on : (names : List ℕ) (at n : ℕ) → GoesOn names → GoesOn (take n (drop at names))
-unfolding GoesOn
-part-goes-on names at n g = part-continues names at n g
 
 -- the code of a name at that place among the words
 coded : ℕ → List ℕ → ℕ

@@ -1,55 +1,124 @@
-// The codes of the records' names.
+// Whether a bit may have a name. The bytes of a long name are told by blocks of the names text, each of which is looked at once, when a name needs it, so
+// that names which share their bytes cost no more than those bytes.
 ghost use mathlib.Core.Path.{_≡_};
 ghost use mathlib.Core.Bool.{true};
-ghost use Prim.Native.Nat.{_/_, _<_};
-ghost use lib.ListN.{length};
-ghost use Rattle.rules.specs.Words.{numberIf};
-ghost use Rattle.names.specs.NameTable.{isNamed, codeOf};
+ghost use Prim.Native.Nat.{_+_, _-_, _*_, _/_, _≤_, _<_};
+ghost use lib.ListN.{length, take, drop};
+ghost use Rattle.rules.specs.Record.{recordBytes, nameIn};
+ghost use Rattle.rules.specs.Context.{validFieldName};
+ghost use Rattle.sheet.specs.Mark.{HasMarks, continueBy};
+ghost use Rattle.names.specs.NameTable.{isNamed};
 ghost use Rattle.names.specs.Parts.{recordOf};
-ghost use Rattle.names.specs.Code.{GoesOn};
-use crate::words::code_of;
-use rules::Sheet;
+ghost use Rattle.names.specs.Code.{Judged};
 
-// How many bytes for each record the names text may have, so that a look at all of it costs little.
-const BYTES: usize = 64;
+// How many bytes a block has, and how many blocks a names text of 16384 bytes.
+const BLOCK: usize = 64;
 
-// Whether every byte of the names text may go on in a name, as then every byte of each name may. A text that is long for `n` records is not
-// looked at.
-pub fn is_clean(names: &[u8], n: usize) -> bool
-    ensures { λ r. ⌜ (r ≡ true → GoesOn (now (names .entry))) ⌝ }
+pub const BLOCKS: usize = 256;
+
+// What is known of a block: nothing yet, that all its bytes may go on in a name, or that some may not.
+const UNREAD: u8 = 0;
+
+const GOOD: u8 = 1;
+
+const BAD: u8 = 2;
+
+// What is known of a block that was looked at.
+fn known_of(good: bool) -> u8
+    ensures { λ r. ⌜ (r ≡ 1 → good ≡ true) ⌝ }
 {
-    if n < names.len() / BYTES {
+    if good { GOOD } else { BAD }
+}
+
+// Where the block of byte `i` ends, or `e` if that comes first.
+fn block_end(i: usize, e: usize) -> usize
+    requires { ⌜ i < e ⌝ }
+    ensures { λ r. ⌜ (i < r) × (r ≤ e) × (r ≤ i / 64 * 64 + 64) × (r < e → r ≡ i / 64 * 64 + 64) ⌝ }
+{
+    let left = BLOCK - i % BLOCK;
+    if e - i < left { e } else { i + left }
+}
+
+// Whether all bytes of block `k` may go on in a name, as far as that is known: of the first 256 blocks.
+fn is_good(marks: &[u8; 256], names: &[u8], blocks: &mut [u8; BLOCKS], k: usize) -> bool
+    requires { ⌜ (k * 64 < length (now names)) × Judged (now marks) (now names) (now blocks) ⌝ }
+    ensures { λ r. ⌜ (r ≡ true → continueBy (now (marks .entry)) (take 64 (drop (k * 64) (now (names .entry)))) ≡ true) × Judged (now (marks .entry)) (now (names .entry)) (now (blocks .exit)) ⌝ }
+{
+    if BLOCKS <= k {
         return false;
     }
-    sheet::continues_names(names)
+    let known = blocks[k];
+    if known != UNREAD {
+        return known == GOOD;
+    }
+    let at = k * BLOCK;
+    let end = block_end(at, names.len());
+    let good = sheet::continue_by(marks, &names[at..end]);
+    blocks[k] = known_of(good);
+    good
 }
 
-// The code of the name of the first record; 0 if it has none that fits. `clean` may say that every byte of the names text may go on in a name.
-fn first_code(sheet: &[u8], names: &[u8], clean: bool) -> u16
-    requires { ⌜ (clean ≡ true → GoesOn (now names)) ⌝ }
-    ensures { λ r. ⌜ r ≡ numberIf (isNamed (recordOf (now (sheet .entry)) (now (names .entry)) 0)) (codeOf (recordOf (now (sheet .entry)) (now (names .entry)) 0 .name)) ⌝ }
+// Whether each byte from `a` to `e`, all in block `k`, may go on in a name.
+fn block_continues(
+    marks: &[u8; 256],
+    names: &[u8],
+    blocks: &mut [u8; BLOCKS],
+    k: usize,
+    a: usize,
+    e: usize,
+) -> bool
+    requires { ⌜ (k * 64 ≤ a) × (a < e) × (e ≤ k * 64 + 64) × (e ≤ length (now names)) × Judged (now marks) (now names) (now blocks) ⌝ }
+    ensures { λ r. ⌜ (r ≡ continueBy (now (marks .entry)) (take (e - a) (drop a (now (names .entry))))) × Judged (now (marks .entry)) (now (names .entry)) (now (blocks .exit)) ⌝ }
 {
-    if !sheet::has_name(sheet, 0) {
-        return 0;
+    if is_good(marks, names, blocks, k) {
+        return true;
+    }
+    sheet::continue_by(marks, &names[a..e])
+}
+
+// Whether each byte from `a` to `e` may go on in a name.
+fn part_continues(
+    marks: &[u8; 256],
+    names: &[u8],
+    blocks: &mut [u8; BLOCKS],
+    a: usize,
+    e: usize,
+) -> bool
+    requires { ⌜ (a ≤ e) × (e ≤ length (now names)) × Judged (now marks) (now names) (now blocks) ⌝ }
+    ensures { λ r. ⌜ (r ≡ continueBy (now (marks .entry)) (take (e - a) (drop a (now (names .entry))))) × Judged (now (marks .entry)) (now (names .entry)) (now (blocks .exit)) ⌝ }
+{
+    let mut i = a;
+    while i < e {
+        let stop = block_end(i, e);
+        if !block_continues(marks, names, blocks, i / BLOCK, i, stop) {
+            return false;
+        }
+        i = stop;
+    }
+    true
+}
+
+// Whether a bit may have the name, which is that of the first record.
+pub fn is_valid(
+    sheet: &[u8],
+    names: &[u8],
+    marks: &[u8; 256],
+    blocks: &mut [u8; BLOCKS],
+    name: &[u8],
+) -> bool
+    requires { ⌜ (isNamed (recordOf (now sheet) (now names) 0) ≡ true) × (now name ≡ nameIn (now names) (recordBytes (now sheet) 0)) × HasMarks (now marks) × Judged (now marks) (now names) (now blocks) ⌝ }
+    ensures { λ r. ⌜ (r ≡ validFieldName (now (name .entry))) × Judged (now (marks .entry)) (now (names .entry)) (now (blocks .exit)) ⌝ }
+{
+    if name.len() == 0 {
+        return false;
+    }
+    if !sheet::starts_by(marks, name[0]) {
+        return false;
+    }
+    if name.len() <= BLOCK {
+        return sheet::continue_by(marks, name);
     }
     let start = sheet::name_offset(sheet, 0);
-    let len = sheet::name_len(sheet, 0);
-    if names.len() < start {
-        return 0;
-    }
-    if names.len() - start < len {
-        return 0;
-    }
-    let end = start + len;
-    code_of(&names[start..end], clean)
-}
-
-// The same of record `i`. Only its bytes are passed on, so that where they end is tested once.
-pub fn code(sheet: &[u8], names: &[u8], i: usize, clean: bool) -> u16
-    requires { ⌜ (i < length (now sheet) / 32) × (clean ≡ true → GoesOn (now names)) ⌝ }
-    ensures { λ r. ⌜ r ≡ numberIf (isNamed (recordOf (now (sheet .entry)) (now (names .entry)) i)) (codeOf (recordOf (now (sheet .entry)) (now (names .entry)) i .name)) ⌝ }
-{
-    let at = i * Sheet::RECORD;
-    let end = at + Sheet::RECORD;
-    first_code(&sheet[at..end], names, clean)
+    let end = start + sheet::name_len(sheet, 0);
+    part_continues(marks, names, blocks, start, end)
 }

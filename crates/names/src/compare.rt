@@ -5,8 +5,6 @@ ghost use lib.ListN.{length};
 ghost use Rattle.rules.specs.Words.{sameBytes};
 ghost use Rattle.sheet.specs.Window.{passes};
 ghost use Rattle.names.specs.Same.{sameAt};
-ghost use Rattle.names.specs.NameTable.{isNamed};
-ghost use Rattle.names.specs.Parts.{recordOf};
 
 // Whether the `n` bytes from `at` on are the same. No byte ends the loop early, so that many are compared at once.
 pub fn window_same(a: &[u8], b: &[u8], at: usize, n: usize) -> bool
@@ -56,11 +54,4 @@ pub fn same_bytes(a: &[u8], b: &[u8]) -> bool
         return windows_same(a, b, 8);
     }
     windows_same(a, b, 16)
-}
-
-// Whether record `i` has a name, and the name fits.
-pub fn is_named(sheet: &[u8], names: &[u8], i: usize) -> bool
-    ensures { λ r. ⌜ r ≡ isNamed (recordOf (now (sheet .entry)) (now (names .entry)) i) ⌝ }
-{
-    sheet::has_name(sheet, i) & sheet::fits(sheet, names, i)
 }

@@ -22,6 +22,3 @@ pub const WILDCARDS: usize = 5120;
 
 // How many declarations there are.
 pub const DECLARED: usize = 5121;
-
-// Where places are noted, until the targets are stored there.
-pub const NOTES: usize = 3072;

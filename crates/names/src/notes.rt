@@ -1,59 +1,53 @@
-// Where the first record of a kind with each name stands, noted by the name's id. A place is a record's index and one more; 0 is none.
+// What the records say of their names, noted at the names' ids. A place is a record's index and one more; 0 is none.
 ghost use mathlib.Core.Path.{_≡_};
-ghost use mathlib.Core.Bool.{_&&_};
+ghost use mathlib.Core.Bool.{true};
 ghost use Prim.Native.Nat.{_+_, _<_};
-ghost use lib.ListN.{length, getD, take, set};
-ghost use Rattle.rules.specs.Record.{is};
-ghost use Rattle.names.specs.NameTable.{isNamed};
-ghost use Rattle.names.specs.Notes.{Noted};
-ghost use Rattle.names.specs.Parts.{ids, recordOf};
-use crate::clear::clear;
-use crate::compare::is_named;
-use crate::count::count;
+ghost use lib.ListN.{length};
+ghost use Rattle.rules.specs.Record.{recordBytes, kindIn};
+ghost use Rattle.names.specs.NameTable.{isNamed, idIn};
+ghost use Rattle.names.specs.Notes.{setFirst, Read, Spread};
+ghost use Rattle.names.specs.Parts.{known, knownCount, recordOf};
 use crate::count::index;
 use crate::count::short;
 use crate::layout;
+use crate::values::target;
 
-// Whether record `m` is of that kind, and has a name that fits.
-fn is_named_as(sheet: &[u8], names: &[u8], kind: u8, m: usize) -> bool
-    ensures { λ r. ⌜ r ≡ (is kind (recordOf (now (sheet .entry)) (now (names .entry)) m) && isNamed (recordOf (now (sheet .entry)) (now (names .entry)) m)) ⌝ }
+// Notes that record `i` declares the name with that id, unless one before it does.
+fn note_declaration(table: &mut [u16], i: usize, id: usize)
+    requires { ⌜ (length (now table) ≡ 5122) × (i < 1024) × (id < 1024) ⌝ }
+    ensures { λ _. ⌜ now (table .exit) ≡ setFirst (now (table .entry)) (1024 + id) (i + 1) ⌝ }
 {
-    if sheet::kind(sheet, m) == kind {
-        is_named(sheet, names, m)
-    } else {
-        false
+    if table[layout::DECLARATIONS + id] != 0 {
+        return;
+    }
+    table[layout::DECLARATIONS + id] = short(i + 1);
+}
+
+// Notes what record `i`, which is of that kind, says of its name, which has that id.
+pub fn note(sheet: &[u8], names: &[u8], table: &mut [u16], kind: u8, i: usize, id: usize)
+    requires { ⌜ (i < knownCount (now sheet)) × (i < 1024) × (id < 1024) × (isNamed (recordOf (now sheet) (now names) i) ≡ true) × (kind ≡ kindIn (recordBytes (now sheet) i)) × (id ≡ idIn (known (now sheet) (now names)) i (recordOf (now sheet) (now names) i)) × (length (now table) ≡ 5122) × Read (now sheet) (now names) (now table) (i + 1) i ⌝ }
+    ensures { λ _. ⌜ Read (now (sheet .entry)) (now (names .entry)) (now (table .exit)) (i + 1) (i + 1) ⌝ }
+{
+    if kind == sheet::kinds::DECLARATION {
+        note_declaration(table, i, id);
+        return;
+    }
+    if kind == sheet::kinds::IMPORTED_NAME {
+        table[layout::IMPORTED + id] = 1;
     }
 }
 
-// Notes record `m` at its id.
-fn note(table: &mut [u16], m: usize)
-    requires { ⌜ (length (now table) ≡ 5122) × (m < 1024) × (getD (now table) m 0 < 1024) ⌝ }
-    ensures { λ _. ⌜ now (table .exit) ≡ set (now (table .entry)) (3072 + getD (now (table .entry)) m 0) (m + 1) ⌝ }
+// Stores for record `i` what is noted at its id, which is its own index or that of a record before it.
+pub fn spread(sheet: &[u8], names: &[u8], table: &mut [u16], i: usize)
+    requires { ⌜ (length (now table) ≡ 5122) × (i < knownCount (now sheet)) × (i < 1024) × Spread (now sheet) (now names) (now table) i ⌝ }
+    ensures { λ _. ⌜ Spread (now (sheet .entry)) (now (names .entry)) (now (table .exit)) (i + 1) ⌝ }
 {
-    let k = index(table[layout::IDS + m]);
-    table[layout::NOTES + k] = short(m + 1);
-}
-
-// Notes the first records of that kind. It goes from the last record to the first, so that the first with a name is noted last.
-pub fn note_firsts(sheet: &[u8], names: &[u8], kind: u8, table: &mut [u16])
-    requires { ⌜ (length (now table) ≡ 5122) × (take 1024 (now table) ≡ ids (now sheet) (now names)) ⌝ }
-    ensures { λ _. ⌜ (take 3072 (now (table .exit)) ≡ take 3072 (now (table .entry))) × Noted kind (now (sheet .entry)) (now (names .entry)) (now (table .exit)) ⌝ }
-{
-    clear(table, layout::NOTES, layout::NOTES + layout::PART);
-    let n = count(sheet);
-    for j in 0..n {
-        let m = n - 1 - j;
-        if is_named_as(sheet, names, kind, m) {
-            note(table, m);
-        }
+    let id = index(table[layout::IDS + i]);
+    let place = table[layout::DECLARATIONS + id];
+    table[layout::DECLARATIONS + i] = place;
+    table[layout::IMPORTED + i] = table[layout::IMPORTED + id];
+    if place == 0 {
+        return;
     }
-}
-
-// The place that is noted for the name of record `i`.
-pub fn noted(table: &[u16], i: usize) -> u16
-    requires { ⌜ (length (now table) ≡ 5122) × (i < 1024) × (getD (now table) i 0 < 1024) ⌝ }
-    ensures { λ r. ⌜ r ≡ getD (now (table .entry)) (3072 + getD (now (table .entry)) i 0) 0 ⌝ }
-{
-    let k = index(table[layout::IDS + i]);
-    table[layout::NOTES + k]
+    table[layout::TARGETS + i] = target(sheet, index(place));
 }

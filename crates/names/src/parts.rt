@@ -1,84 +1,65 @@
-// The parts of the table, each filled from its place on. What stands before it is kept; what stands behind it may change.
+// The parts of the table. The records are read once, then what is noted at the ids is spread to all records.
 ghost use mathlib.Core.Path.{_≡_};
+ghost use mathlib.Core.Bool.{true};
 ghost use mathlib.Core.List.{_++_};
-ghost use lib.ListN.{length, take};
-ghost use Rattle.names.specs.Parts.{ids, declarations, imported, targets, codes, totals};
-use crate::clear::clear;
-use crate::codes;
+ghost use Prim.Native.Nat.{_≤_};
+ghost use lib.ListN.{length, take, replicate};
+ghost use Rattle.names.specs.Notes.{Read, Silent};
+ghost use Rattle.names.specs.Parts.{knownCount, ids, declarations, imported, targets, codes, totals};
+use crate::codes::BLOCKS;
 use crate::count;
-use crate::ids::next_id;
 use crate::layout;
-use crate::notes;
-use crate::values;
+use crate::notes::spread;
+use crate::records::read;
 
-// Fills the ids.
-pub fn fill_ids(sheet: &[u8], names: &[u8], table: &mut [u16])
-    requires { ⌜ length (now table) ≡ 5122 ⌝ }
-    ensures { λ _. ⌜ take 1024 (now (table .exit)) ≡ ids (now (sheet .entry)) (now (names .entry)) ⌝ }
+// Fills the ids and the codes, and notes what the records say of their names.
+pub fn read_records(sheet: &[u8], names: &[u8], table: &mut [u16])
+    requires { ⌜ (length (now table) ≡ 5122) × (now table ≡ replicate 5122 0) ⌝ }
+    ensures { λ _. ⌜ Read (now (sheet .entry)) (now (names .entry)) (now (table .exit)) (knownCount (now (sheet .entry))) (knownCount (now (sheet .entry))) ⌝ }
 {
     let mut heads: [u16; layout::PART] = [0; layout::PART];
     let mut links: [u16; layout::PART] = [0; layout::PART];
+    let mut blocks: [u8; BLOCKS] = [0; BLOCKS];
     let n = count::count(sheet);
+    let marks = sheet::name_marks();
     for i in 0..n {
-        table[layout::IDS + i] = next_id(sheet, names, &mut heads, &mut links, i);
+        read(
+            sheet,
+            names,
+            &marks,
+            &mut blocks,
+            &mut heads,
+            &mut links,
+            table,
+            i,
+        );
     }
-    clear(table, layout::IDS + n, layout::IDS + layout::PART);
 }
 
-// Fills the places of the declarations.
-pub fn fill_declarations(sheet: &[u8], names: &[u8], table: &mut [u16])
-    requires { ⌜ (length (now table) ≡ 5122) × (take 1024 (now table) ≡ ids (now sheet) (now names)) ⌝ }
-    ensures { λ _. ⌜ take 2048 (now (table .exit)) ≡ take 1024 (now (table .entry)) ++ declarations (now (sheet .entry)) (now (names .entry)) ⌝ }
+// Whether nothing is noted at the first `n` ids.
+fn is_silent(table: &[u16], n: usize) -> bool
+    requires { ⌜ (length (now table) ≡ 5122) × (n ≤ 1024) ⌝ }
+    ensures { λ r. ⌜ (r ≡ true → Silent (now (table .entry)) n) ⌝ }
 {
-    notes::note_firsts(sheet, names, sheet::kinds::DECLARATION, table);
-    let n = count::count(sheet);
-    for i in 0..n {
-        table[layout::DECLARATIONS + i] = notes::noted(table, i);
+    let mut noted = false;
+    for k in 0..n {
+        noted = noted | (table[layout::DECLARATIONS + k] != 0) | (table[layout::IMPORTED + k] != 0);
     }
-    clear(
-        table,
-        layout::DECLARATIONS + n,
-        layout::DECLARATIONS + layout::PART,
-    );
+    !noted
 }
 
-// Fills which names are imported.
-pub fn fill_imported(sheet: &[u8], names: &[u8], table: &mut [u16])
-    requires { ⌜ (length (now table) ≡ 5122) × (take 1024 (now table) ≡ ids (now sheet) (now names)) ⌝ }
-    ensures { λ _. ⌜ take 3072 (now (table .exit)) ≡ take 2048 (now (table .entry)) ++ imported (now (sheet .entry)) (now (names .entry)) ⌝ }
-{
-    notes::note_firsts(sheet, names, sheet::kinds::IMPORTED_NAME, table);
-    let n = count::count(sheet);
-    for i in 0..n {
-        table[layout::IMPORTED + i] = count::one_if(notes::noted(table, i) != 0);
-    }
-    clear(table, layout::IMPORTED + n, layout::IMPORTED + layout::PART);
-}
-
-// Fills the places of the declared types.
-pub fn fill_targets(sheet: &[u8], names: &[u8], table: &mut [u16])
-    requires { ⌜ (length (now table) ≡ 5122) × (take 3072 (now table) ≡ (ids (now sheet) (now names) ++ declarations (now sheet) (now names)) ++ imported (now sheet) (now names)) ⌝ }
-    ensures { λ _. ⌜ take 4096 (now (table .exit)) ≡ take 3072 (now (table .entry)) ++ targets (now (sheet .entry)) (now (names .entry)) ⌝ }
+// Fills the declarations, the imports and the targets.
+pub fn spread_notes(sheet: &[u8], names: &[u8], table: &mut [u16])
+    requires { ⌜ (length (now table) ≡ 5122) × Read (now sheet) (now names) (now table) (knownCount (now sheet)) (knownCount (now sheet)) ⌝ }
+    ensures { λ _. ⌜ take 5120 (now (table .exit)) ≡ (((ids (now (sheet .entry)) (now (names .entry)) ++ declarations (now (sheet .entry)) (now (names .entry))) ++ imported (now (sheet .entry)) (now (names .entry))) ++ targets (now (sheet .entry)) (now (names .entry))) ++ codes (now (sheet .entry)) (now (names .entry)) ⌝ }
 {
     let n = count::count(sheet);
-    for i in 0..n {
-        let place = count::index(table[layout::DECLARATIONS + i]);
-        table[layout::TARGETS + i] = values::target(sheet, place);
+    if is_silent(table, n) {
+        return;
     }
-    clear(table, layout::TARGETS + n, layout::TARGETS + layout::PART);
-}
-
-// Fills the names' codes.
-pub fn fill_codes(sheet: &[u8], names: &[u8], table: &mut [u16])
-    requires { ⌜ length (now table) ≡ 5122 ⌝ }
-    ensures { λ _. ⌜ take 5120 (now (table .exit)) ≡ take 4096 (now (table .entry)) ++ codes (now (sheet .entry)) (now (names .entry)) ⌝ }
-{
-    let n = count::count(sheet);
-    let clean = codes::is_clean(names, n);
     for i in 0..n {
-        table[layout::CODES + i] = codes::code(sheet, names, i, clean);
+        spread(sheet, names, table, i);
     }
-    clear(table, layout::CODES + n, layout::CODES + layout::PART);
 }
 
 // Fills whether there is a wildcard, and how many declarations there are.

@@ -1,12 +1,11 @@
 // The code of a name.
 ghost use mathlib.Core.Path.{_≡_};
-ghost use mathlib.Core.Bool.{true};
 ghost use Prim.Native.Nat.{_<_};
 ghost use lib.ListN.{length, drop};
 ghost use Rattle.rules.specs.Words.{sameBytes};
 ghost use Rattle.rules.specs.Context.{words, wordFrom, validFieldName};
 ghost use Rattle.names.specs.NameTable.{codeOf};
-ghost use Rattle.names.specs.Code.{startsWord, GoesOn};
+ghost use Rattle.names.specs.Code.{startsWord};
 use crate::compare::window_same;
 
 // Whether the name is the word.
@@ -72,21 +71,9 @@ fn word(name: &[u8]) -> u16
     0
 }
 
-// Whether a bit may have the name, of which `clean` may say that every byte may go on in a name.
-fn is_valid(name: &[u8], clean: bool) -> bool
-    requires { ⌜ (0 < length (now name)) × (clean ≡ true → GoesOn (now name)) ⌝ }
-    ensures { λ r. ⌜ r ≡ validFieldName (now (name .entry)) ⌝ }
-{
-    if clean {
-        return sheet::starts_name(name[0]);
-    }
-    sheet::is_valid_field_name(name)
-}
-
-// The code of the name: 1 to 7 for the words, 8 for the name with no bytes, 9 for another name that a bit may have, else 0. `clean` may say
-// that every byte of it may go on in a name.
-pub fn code_of(name: &[u8], clean: bool) -> u16
-    requires { ⌜ (clean ≡ true → GoesOn (now name)) ⌝ }
+// The code of the name: 1 to 7 for the words, 8 for the name with no bytes, 9 for another name that a bit may have, as `valid` says, else 0.
+pub fn code_of(name: &[u8], valid: bool) -> u16
+    requires { ⌜ valid ≡ validFieldName (now name) ⌝ }
     ensures { λ r. ⌜ r ≡ codeOf (now (name .entry)) ⌝ }
 {
     if name.len() == 0 {
@@ -96,7 +83,7 @@ pub fn code_of(name: &[u8], clean: bool) -> u16
     if place != 0 {
         return place;
     }
-    if is_valid(name, clean) {
+    if valid {
         return 9;
     }
     0
@@ -106,5 +93,5 @@ pub fn code_of(name: &[u8], clean: bool) -> u16
 pub fn name_code(name: &[u8]) -> u16
     ensures { λ r. ⌜ r ≡ codeOf (now (name .entry)) ⌝ }
 {
-    code_of(name, false)
+    code_of(name, sheet::is_valid_field_name(name))
 }

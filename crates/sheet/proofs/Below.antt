@@ -11,11 +11,11 @@ unfoldable pub passesBelow : ℕ → (ℕ → Bool) → Bool
 passesBelow zero test = true
 passesBelow (suc n) test = test n && passesBelow n test
 
-first-passes : (a b : Bool) → T (a && b) → T a
+pub first-passes : (a b : Bool) → T (a && b) → T a
 first-passes true b t = tt
 first-passes false b t = t
 
-second-passes : (a b : Bool) → T (a && b) → T b
+pub second-passes : (a b : Bool) → T (a && b) → T b
 second-passes true b t = t
 second-passes false b t = absurd t
 

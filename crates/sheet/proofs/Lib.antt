@@ -4,3 +4,4 @@ pub mod Below
 pub mod Matched
 pub mod Fields
 pub mod Windows
+pub mod Marks

@@ -1,16 +1,12 @@
--- Windows of a list: one more element, and two windows that meet. A name whose first byte may start one is valid if the window of all its
--- bytes goes on.
+-- Windows of a list: one more element, and two windows that meet. A test passes in the window of all indices just if no element fails it.
 use Prim.Native.Nat.{ℕ, zero, suc, _+_, _-_, _≤_, _<_}
 use mathlib.Core.Path.{_≡_, refl, _∙_, sym}
-use mathlib.Core.Bool.{Bool, true, false, not, _&&_, _||_, and-true, and-false, and-assoc, or-true}
+use mathlib.Core.Bool.{Bool, true, false, not, _&&_, _||_, and-true, and-false, and-assoc}
 use mathlib.Core.List.{List, [], _∷_}
 use native.Mathlib.Omega.{arith}
-use lib.Dec.{eqb}
-use lib.ListN.{length, getD, take, drop}
-use borrow.Author.Tests.{not-true}
-use Rattle.rules.specs.Words.{within, anyOf}
-use Rattle.rules.specs.Context.{startsName, continuesName, validFieldName}
-use Rattle.sheet.specs.Window.{passes, continuesAt}
+use lib.ListN.{length, getD}
+use Rattle.rules.specs.Words.{anyOf}
+use Rattle.sheet.specs.Window.{passes}
 
 -- what both windows hold counts once
 and-twice : (a b c : Bool) → (a && b && (b && c)) ≡ (a && (b && c))
@@ -24,7 +20,7 @@ module _ (test : ℕ → Bool) where
   none-fails i = refl
 
   -- a window behind a window
-  split : (i m n : ℕ) → passes test i (m + n) ≡ (passes test i m && passes test (i + m) n)
+  pub split : (i m n : ℕ) → passes test i (m + n) ≡ (passes test i m && passes test (i + m) n)
   unfolding passes
   split i zero n =
       let same : i + 0 ≡ i = omega arith in
@@ -38,6 +34,11 @@ module _ (test : ℕ → Bool) where
   pub one-more : (i k : ℕ) (all here : Bool) → all ≡ passes test i k → here ≡ test (i + k) → (all && here) ≡ passes test i (k + 1)
   unfolding passes
   one-more i k all here a h = rw (split i k 1, ← a, ← h, and-true)
+
+  pub one-more-in-front : (k : ℕ) (all here : Bool) → all ≡ passes test 0 k → here ≡ test k → (all && here) ≡ passes test 0 (k + 1)
+  one-more-in-front k all here a h =
+      let start : 0 + k ≡ k = omega arith in
+      one-more 0 k all here a (rw start h)
 
   overlap : (i m both n : ℕ) → (passes test i (m + both) && passes test (i + m) (both + n)) ≡ passes test i (m + (both + n))
   overlap i m both n = rw (split i m both, split (i + m) both n, split i m (both + n), split (i + m) both n, and-twice)
@@ -98,56 +99,12 @@ all-or-none : (a b : Bool) → (a && not b) ≡ not (not a || b)
 all-or-none true b = refl
 all-or-none false b = refl
 
-goes-on : (bytes : List ℕ) → passes (continuesAt bytes) 0 (length bytes) ≡ not (anyOf (λ c. not (continuesName c)) bytes)
-unfolding passes continuesAt anyOf
-goes-on [] = refl
-goes-on (b ∷ bytes) = rw (behind-first (continuesAt (b ∷ bytes)) 0 (length bytes), goes-on bytes, all-or-none)
+pub none-fails-in : (test : ℕ → Bool) (xs : List ℕ) → passes (λ i. test (getD xs i 0)) 0 (length xs) ≡ not (anyOf (λ x. not (test x)) xs)
+unfolding passes anyOf
+none-fails-in test [] = refl
+none-fails-in test (x ∷ xs) =
+    rw (behind-first (λ i. test (getD (x ∷ xs) i 0)) 0 (length xs), none-fails-in test xs, all-or-none)
 
 pub neither : (a b : Bool) → (a || b) ≡ false → (a ≡ false) × (b ≡ false)
 neither true b h = (h, cc)
 neither false b h = (refl, h)
-
-module _ {A : Type 0} (p : A → Bool) where
-  none-behind : (n : ℕ) (xs : List A) → anyOf p xs ≡ false → anyOf p (drop n xs) ≡ false
-  unfolding anyOf
-  none-behind zero xs h = h
-  none-behind (suc n) [] h = refl
-  none-behind (suc n) (x ∷ xs) h = none-behind n xs (neither (p x) (anyOf p xs) h .1)
-
-  none-before : (n : ℕ) (xs : List A) → anyOf p xs ≡ false → anyOf p (take n xs) ≡ false
-  unfolding anyOf
-  none-before zero xs h = refl
-  none-before (suc n) [] h = refl
-  none-before (suc n) (x ∷ xs) h =
-      let both : (p x ≡ false) × (anyOf p xs ≡ false) = neither (p x) (anyOf p xs) h in
-      rw (both .0, none-before n xs (both .1))
-
--- so each part of a text goes on if the text does
-pub part-continues : (text : List ℕ) (at n : ℕ) → passes (continuesAt text) 0 (length text) ≡ true → passes (continuesAt (take n (drop at text))) 0 (length (take n (drop at text))) ≡ true
-part-continues text at n h =
-    let none : anyOf (λ c. not (continuesName c)) text ≡ false = not-true _ (sym (goes-on text) ∙ h) in
-    rw (goes-on, none-before (λ c. not (continuesName c)) n (drop at text) (none-behind (λ c. not (continuesName c)) at text none))
-
--- `a` stands for small letters, `u` for capitals, `d` for digits, `e` for `_`
-start-continues : (a u d e : Bool) → (a || e) ≡ true → (a || u || d || e) ≡ true
-start-continues true u d e h = refl
-start-continues false u d true h = or-true (u || d)
-start-continues false u d false h = cc
-
-pub empty-name : (name : List ℕ) → length name ≡ 0 → false ≡ validFieldName name
-unfolding validFieldName
-empty-name [] h = refl
-empty-name (b ∷ bytes) h = absurd (omega arith)
-
-pub bad-start : (name : List ℕ) (first : Bool) → first ≡ startsName (getD name 0 0) → first ≡ false → false ≡ validFieldName name
-unfolding validFieldName
-bad-start [] first h f = refl
-bad-start (b ∷ bytes) first h f = rw (sym h ∙ f)
-
-pub good-start : (name : List ℕ) (first all : Bool) → (length name ≡ 0 → ⊥) → first ≡ startsName (getD name 0 0) → first ≡ true → all ≡ passes (continuesAt name) 0 (length name) → all ≡ validFieldName name
-unfolding validFieldName passes continuesAt
-good-start [] first all n h t a = absurd (n refl)
-good-start (b ∷ bytes) first all n h t a =
-    let start : startsName b ≡ true = sym h ∙ t in
-    let goes : continuesName b ≡ true = start-continues (within 97 122 b) (within 65 90 b) (within 48 57 b) (eqb b 95) start in
-    a ∙ rw (start, goes, behind-first (continuesAt (b ∷ bytes)) 0 (length bytes), goes-on bytes)

@@ -5,9 +5,11 @@ pub mod kinds;
 mod names;
 mod record;
 
-pub use field_name::continues_names;
+pub use field_name::continue_by;
+pub use field_name::is_valid_by;
 pub use field_name::is_valid_field_name;
-pub use field_name::starts_name;
+pub use field_name::name_marks;
+pub use field_name::starts_by;
 pub use kinds::has_ordinal;
 pub use kinds::is_condition;
 pub use kinds::is_known;

@@ -1,6 +1,6 @@
 -- `names::ids::first_same` meets its contract. The loop's invariant: every first record before `i` with the name stands before the place.
 use borrow.Author.Needs.{needs}
-use Rattle.names.proofs.Leads.{Walk, walk-start, walk-ended, walk-found, walk-on, walk-less}
+use Rattle.names.proofs.Leads.{Walk, walk-start, walk-named, walk-ended, walk-found, walk-on, walk-less}
 use Rattle.names.proofs.ids.first_same.Statement.{statement}
 use Rattle.names.proofs.ids.first_same.Tie as tie
 
@@ -25,7 +25,7 @@ first-same-spec =
     let asked = c .before .before .before .before .before .pre in
     walk-start _ _ _ _ _ _ _ (asked .0) (asked .3) (asked .5) (c .index .ensures))
     (λ c. search needs)
-    (λ c κs. search needs)
+    (λ c κs. walk-named _ _ _ _ (c .before .loop .inv .2) (c .loop-test .taken))
     (λ c κs. search needs)
     (λ c. search laws)
     (λ c. search needs)

@@ -8,4 +8,6 @@ pub fill-spec : {M : Type 1} → statement M
 fill-spec = tie.close (tie.spec
     (λ c κs. search needs)
     (λ c κs. search needs)
+    (λ c κs. search needs)
+    (λ c κs. search needs)
     (λ c. search table-whole))

@@ -13,6 +13,5 @@ code-of-spec =
     (λ c. search laws)
     (λ c κs. search laws)
     (λ c. search laws)
-    (λ c κs. search laws)
     (λ c. search laws)
     (λ c. search laws))
