@@ -6,6 +6,7 @@ pub mod Known
 pub mod Optionals
 pub mod OwnKinds
 pub mod OwnRules
+pub mod Passed
 pub mod Stack
 pub mod Views
 pub mod Walk

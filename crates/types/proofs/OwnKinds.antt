@@ -16,20 +16,20 @@ use Rattle.diagnostic.specs.Push.{State, pushFound}
 use Rattle.names.specs.View.{viewAt, viewOf}
 use Rattle.types.specs.Own.{elementFound, namedFound, contentFound}
 
-both : (x y : Bool) → (x && y) ≡ true → (x ≡ true) × (y ≡ true)
+pub both : (x y : Bool) → (x && y) ≡ true → (x ≡ true) × (y ≡ true)
 both true true h = (refl, refl)
 both true false h = absurd (let z : _≡_ {A = ℕ} 0 1 = cc in omega arith)
 both false y h = absurd (let z : _≡_ {A = ℕ} 0 1 = cc in omega arith)
 
-within-true : (low high n : ℕ) → within low high n ≡ true → (low ≤ n) × (n ≤ high)
+pub within-true : (low high n : ℕ) → within low high n ≡ true → (low ≤ n) × (n ≤ high)
 within-true low high n h =
     let parts = both (leb low n) (leb n high) h in
     (leb-true low n (parts .0), leb-true n high (parts .1))
 
-below : (low high n : ℕ) → n < low → within low high n ≡ false
+pub below : (low high n : ℕ) → n < low → within low high n ≡ false
 below low high n h = rw (lt-leb low n h)
 
-above : (low high n : ℕ) → high < n → within low high n ≡ false
+pub above : (low high n : ℕ) → high < n → within low high n ≡ false
 above low high n h = rw (lt-leb n high h, and-false)
 
 same-element : (ctx : ValidationContext ℕ Span) (rs : List (Rec ℕ Span)) → elementViolations ctx rs ≡ elementFound rs
@@ -71,7 +71,7 @@ module _ (ctx : ValidationContext ℕ Span) (t : Rec ℕ Span) (rs : List (Rec �
       )
       (simp append-nil (same-element ctx rs))
 
-  own-content :
+  pub own-content :
       (t .kind ≡ Kind.Named → ⊥) → within Kind.Set Kind.Map (t .kind) ≡ false → within Kind.Vec2 Kind.Mat4 (t .kind) ≡ false → ownTypeViolations ctx t rs ≡ contentFound ctx t rs
   unfolding ownTypeViolations contentFound
   own-content named keyed geometric = rw (ownTypeViolations, ne-eqb (t .kind) Kind.Named named, keyed, geometric) (simp append-nil)

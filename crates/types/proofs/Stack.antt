@@ -36,7 +36,7 @@ all-skipped : (k : ℕ) → map (λ part. false && part) (checkedParts k) ≡ re
 all-skipped k = same-test false (checkedParts k) ∙ rw (test-count k (eqb k Kind.Map) refl)
 
 -- a bit name is no part, and a type's parts take its place
-after-bit : (tests : List Bool) (k : ℕ) → k ≡ Kind.BitName → tests ≡ stackAfter tests k
+pub after-bit : (tests : List Bool) (k : ℕ) → k ≡ Kind.BitName → tests ≡ stackAfter tests k
 unfolding stackAfter
 after-bit [] k h = refl
 after-bit (test ∷ tests) k h = rw (stackAfter, h)
@@ -74,9 +74,6 @@ after-generic k (suc c) h generic =
 
 -- the same, of the two numbers that the code keeps
 module _ (due : Due) (k : ℕ) where
-  pub due-bit : k ≡ Kind.BitName → stackOf due ≡ stackAfter (stackOf due) k
-  due-bit h = after-bit (stackOf due) k h
-
   pub due-skipped :
       (parts : ℕ) → (k ≡ Kind.BitName → ⊥) → parts ≡ length (Kind.partsOf k) → 0 < due .skipped →
       stackOf (record { skipped = due .skipped - 1 + parts; checked = due .checked }) ≡ stackAfter (stackOf due) k

@@ -1,11 +1,12 @@
 -- The types of a type are walked record by record: what is found at a record comes first, and then what is found with the tests after it.
 use Prim.Native.Nat.{ℕ, zero, suc, _+_, _<_, _≤_}
 use mathlib.Core.Path.{_≡_, refl, sym, _∙_}
-use mathlib.Core.Bool.{Bool, true, false, and-false, and-true}
+use mathlib.Core.Bool.{Bool, true, false, _&&_, and-false, and-true}
 use mathlib.Core.List.{List, [], _∷_, _++_}
 use native.Mathlib.Omega.{arith}
+use lib.Dec.{eqb}
 use lib.ListN.{replicate}
-use borrow.Author.Tests.{eq-eqb, ne-eqb}
+use borrow.Author.Tests.{eqb-true, ne-eqb}
 use Rattle.rules.specs.declared.span.Span.{Span}
 use Rattle.rules.specs.Kind
 use Rattle.rules.specs.Record.{Rec, is, recordBytes, kindIn}
@@ -15,7 +16,9 @@ use Rattle.diagnostic.specs.Push.{State, pushFound}
 use Rattle.diagnostic.proofs.FoundPushes.{found-append, found-none}
 use Rattle.names.specs.View.{viewAt, viewOf, contextBy}
 use Rattle.types.specs.declared.field_type.Due.{Due}
-use Rattle.types.specs.Due.{stackOf, stackAfter, isChecked, turnFound}
+use Rattle.types.specs.Due.{stackOf, stackAfter, isPassed, isChecked, turnFound}
+use Rattle.types.proofs.OwnKinds.{both}
+use Rattle.types.proofs.Passed.{plain-turn, passing}
 use Rattle.types.proofs.Views.{view-cons, view-none}
 
 module _ (ctx : ValidationContext ℕ Span) where
@@ -53,7 +56,7 @@ checks zero h = absurd (h refl)
 checks (suc c) h = refl
 
 module _ (ctx : ValidationContext ℕ Span) (sheet : List ℕ) (due : Due) (i a e : ℕ) (s : State) where
-  -- nothing is told of a skipped type, past the type's end, or at a bit name; and the type's own rules else
+  -- nothing is told of a skipped type, past the type's end, or at a kind before those that name something; and the type's own rules else
   pub turn-skipped : 0 < due .skipped → s ≡ pushFound (turnFound ctx (stackOf due) (viewAt sheet i) (viewOf sheet a e)) s
   unfolding turnFound stackOf
   turn-skipped h = rw (skips (due .skipped) (due .checked) h) (sym (found-none s))
@@ -64,18 +67,18 @@ module _ (ctx : ValidationContext ℕ Span) (sheet : List ℕ) (due : Due) (i a 
       let z : due .skipped ≡ 0 = omega arith in
       rw (z, h) (sym (found-none s))
 
-  pub turn-bit : (k : ℕ) → k ≡ kindIn (recordBytes sheet i) → k ≡ Kind.BitName → s ≡ pushFound (turnFound ctx (stackOf due) (viewAt sheet i) (viewOf sheet a e)) s
-  unfolding turnFound viewAt
-  turn-bit k kind bit = rw (eq-eqb (kindIn (recordBytes sheet i)) Kind.BitName (sym kind ∙ bit), and-false) (sym (found-none s))
+  pub turn-plain : (k : ℕ) → k ≡ kindIn (recordBytes sheet i) → k < Kind.Named → s ≡ pushFound (turnFound ctx (stackOf due) (viewAt sheet i) (viewOf sheet a e)) s
+  unfolding viewAt
+  turn-plain k kind plain = rw (plain-turn ctx (stackOf due) (viewAt sheet i) (viewOf sheet a e) (rw kind at plain)) (sym (found-none s))
 
   pub turn-checked :
-      (k : ℕ) (t : State) → due .skipped ≤ 0 → (due .checked ≡ 0 → ⊥) → k ≡ kindIn (recordBytes sheet i) → (k ≡ Kind.BitName → ⊥) →
+      (k : ℕ) (t : State) → due .skipped ≤ 0 → (due .checked ≡ 0 → ⊥) → k ≡ kindIn (recordBytes sheet i) → Kind.Named ≤ k →
       t ≡ pushFound (ownTypeViolations ctx (viewAt sheet i) (viewOf sheet a e)) s →
       t ≡ pushFound (turnFound ctx (stackOf due) (viewAt sheet i) (viewOf sheet a e)) s
   unfolding turnFound stackOf viewAt
   turn-checked k t none some kind type push =
       let z : due .skipped ≡ 0 = omega arith in
-      rw (z, checks (due .checked) some, ne-eqb (kindIn (recordBytes sheet i)) Kind.BitName (λ q. type (kind ∙ q))) push
+      rw (z, checks (due .checked) some, ne-eqb (kindIn (recordBytes sheet i)) Kind.BitName (λ q. omega arith)) push
 
 module _ (table sheet : List ℕ) (e : ℕ) (all : State) where
   -- what is found from record i on adds to a state what is found in all
@@ -93,9 +96,25 @@ module _ (table sheet : List ℕ) (e : ℕ) (all : State) where
     pub types-next : (k : ℕ) (next : Due) → k ≡ kindIn (recordBytes sheet i) → stackOf next ≡ stackAfter (stackOf due) k → TypesLeft (i + 1) next t
     types-next k next kind after = rw (after, kind) on
 
+    -- where nothing is due after the record, nothing is left
+    pub types-done :
+        (k : ℕ) (next : Due) → k ≡ kindIn (recordBytes sheet i) → stackOf next ≡ stackAfter (stackOf due) k → (eqb (next .skipped) 0 && eqb (next .checked) 0) ≡ true → t ≡ all
+    unfolding stackOf
+    types-done k next kind after done =
+        let none = both (eqb (next .skipped) 0) (eqb (next .checked) 0) done in
+        sym (found-none t)
+        ∙ rw (eqb-true (next .skipped) 0 (none .0), eqb-true (next .checked) 0 (none .1), nothing-due) at (types-next k next kind after)
+
     pub types-last : i + 1 ≡ e → t ≡ all
     types-last last =
         sym (found-none t) ∙ rw (view-none sheet (i + 1) e (omega arith), nothing-left) at on
+
+  -- a record that is passed leaves the state and what is due as they are
+  pub types-passed : (i : ℕ) (due : Due) (s : State) (passed : Bool) → TypesLeft i due s → i < e → passed ≡ isPassed (viewAt sheet i) → passed ≡ true → TypesLeft (i + 1) due s
+  unfolding viewAt
+  types-passed i due s passed left h read true-of =
+      let both = passing (contextBy table sheet) (stackOf due) (viewAt sheet i) (viewOf sheet (i + 1) e) (sym read ∙ true-of) in
+      types-next i due s s left h (rw (both .0) (sym (found-none s))) (kindIn (recordBytes sheet i)) due refl (both .1)
 
   pub types-end : (i : ℕ) (due : Due) (s : State) → TypesLeft i due s → e ≤ i → s ≡ all
   types-end i due s left h = sym (found-none s) ∙ rw (view-none sheet i e h, nothing-left) at left

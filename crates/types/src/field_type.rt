@@ -8,7 +8,7 @@ ghost use Rattle.rules.specs.Kind;
 ghost use Rattle.rules.specs.Types.{typeViolations};
 ghost use Rattle.diagnostic.specs.Push.{pushFound};
 ghost use Rattle.names.specs.View.{viewAt, viewOf, contextBy};
-ghost use Rattle.types.specs.Due.{stackOf, stackAfter, turnFound};
+ghost use Rattle.types.specs.Due.{stackOf, stackAfter, isPassed, turnFound};
 use crate::own::check_own_type;
 use rules::Counts;
 use sheet::kinds;
@@ -19,6 +19,20 @@ pub struct Due {
     pub checked: usize,
 }
 
+// Whether record `i` is passed: a bit name, an optional, an array, or a fixed array that has elements.
+fn is_passed(sheet: &[u8], i: usize) -> bool
+    ensures { λ r. ⌜ r ≡ isPassed (viewAt (now (sheet .entry)) i) ⌝ }
+{
+    let kind = sheet::kind(sheet, i);
+    if (kinds::OPTIONAL <= kind) & (kind <= kinds::ARRAY) {
+        return true;
+    }
+    if kind == kinds::FIXED_ARRAY {
+        return sheet::value(sheet, i) != 0;
+    }
+    kind == kinds::BIT_NAME
+}
+
 // How many parts follow a record of the kind, at most two.
 fn parts_of(kind: u8) -> usize
     ensures { λ r. ⌜ (r ≡ length (Kind.partsOf kind)) × (r ≤ 2) ⌝ }
@@ -26,16 +40,13 @@ fn parts_of(kind: u8) -> usize
     sheet::part_count(kind) as usize
 }
 
-// What is due after a record of that kind.
+// What is due after a type of that kind.
 fn due_after(due: Due, kind: u8) -> Due
-    requires { ⌜ due .skipped + due .checked + 1 < 2 ^ 64 ⌝ }
+    requires { ⌜ (due .skipped + due .checked + 1 < 2 ^ 64) × (kind ≡ Kind.BitName → ⊥) ⌝ }
     ensures { λ r. ⌜ (stackOf r ≡ stackAfter (stackOf due) kind) × (r .skipped + r .checked ≤ due .skipped + due .checked + 1) ⌝ }
 {
     let skipped = due.skipped;
     let checked = due.checked;
-    if kind == kinds::BIT_NAME {
-        return due;
-    }
     let parts = parts_of(kind);
     if 0 < skipped {
         return Due {
@@ -77,13 +88,13 @@ fn check_due_type(
 ) -> Counts
     ensures { λ r. ⌜ _≡_ {A = List ℕ × Counts} (now (list .exit), r) (pushFound (turnFound (contextBy (now (table .entry)) (now (sheet .entry))) (stackOf due) (viewAt (now (sheet .entry)) i) (viewOf (now (sheet .entry)) a e)) (now (list .entry), counts)) ⌝ }
 {
+    if sheet::kind(sheet, i) < kinds::NAMED {
+        return counts;
+    }
     if 0 < due.skipped {
         return counts;
     }
     if due.checked == 0 {
-        return counts;
-    }
-    if sheet::kind(sheet, i) == kinds::BIT_NAME {
         return counts;
     }
     check_own_type(sheet, table, list, counts, i, a, e)
@@ -106,6 +117,10 @@ pub fn check_field_type(
     };
     let mut i = a;
     while i < e {
+        if is_passed(sheet, i) {
+            i += 1;
+            continue;
+        }
         let kind = sheet::kind(sheet, i);
         counts = check_due_type(sheet, table, list, counts, due, i, i + 1, e);
         i += 1;
@@ -114,6 +129,9 @@ pub fn check_field_type(
             return counts;
         }
         due = due_after(due, kind);
+        if (due.skipped == 0) & (due.checked == 0) {
+            return counts;
+        }
     }
     counts
 }

@@ -7,7 +7,8 @@ use borrow.Author.Needs.{needs}
 use Rattle.rules.specs.Types.{typeViolations}
 use Rattle.diagnostic.specs.Push.{pushFound}
 use Rattle.names.specs.View.{viewOf, contextBy}
-use Rattle.types.proofs.Walk.{TypesLeft, types-start, types-next, types-last, types-end}
+use Rattle.types.proofs.Passed.{no-bit}
+use Rattle.types.proofs.Walk.{TypesLeft, types-start, types-passed, types-next, types-done, types-last, types-end}
 use Rattle.types.proofs.field_type.check_field_type.Statement.{statement}
 use Rattle.types.proofs.field_type.check_field_type.Tie as tie
 
@@ -20,7 +21,7 @@ Inv-loop sheet table list₀ counts₀ a e due₀ i₀ list counts due i =
 abbrev μ-loop : tie.MeasureT-loop
 μ-loop sheet table list₀ counts₀ a e due₀ i₀ list counts due i = e - i
 
-ruleset laws = (needs, types-start, types-next, types-last, types-end)
+ruleset laws = (needs, types-start, types-passed, types-next, types-done, types-last, types-end, no-bit)
 
 pub check-field-type-spec : {M : Type 1} → statement M
 check-field-type-spec =
@@ -31,11 +32,17 @@ check-field-type-spec =
     (λ c. search laws)
     (λ c κs. search needs)
     (λ c. search needs)
+    (λ c. search needs)
+    (λ c. search laws)
+    (λ c κs. search needs)
+    (λ c. search needs)
     (λ c κs. search needs)
     (λ c. search needs)
     (λ c. search needs)
     (λ c. search laws)
-    (λ c κs. search needs)
+    (λ c κs. search laws)
+    (λ c. search needs)
+    (λ c. search laws)
     (λ c. search needs)
     (λ c. search laws)
     (λ c. search needs)
