@@ -11,6 +11,7 @@ pub mod KindOnly
 pub mod Bodies
 -- The pass over the records, the chains, and the rows in turn.
 pub mod Passes
+pub mod PlainRuns
 pub mod ChainWalk
 pub mod ChainLengths
 pub mod InTurn

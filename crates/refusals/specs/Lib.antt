@@ -3,5 +3,6 @@ pub mod Answers
 pub mod Due
 pub mod States
 pub mod Pass
+pub mod Runs
 pub mod Turned
 pub mod Lengths

@@ -7,6 +7,7 @@ mod machine;
 mod own;
 mod pass;
 mod rows;
+mod runs;
 mod state;
 mod verdict;
 

@@ -15,6 +15,7 @@ use crate::machine::start;
 use crate::machine::step;
 use crate::own::Own;
 use crate::own::own_fault;
+use crate::runs::run_end;
 use crate::state::State;
 use crate::state::Step;
 use rules::Refusal;
@@ -117,7 +118,7 @@ pub fn first_fault(sheet: &[u8], names: &[u8], table: &[u16; 5122]) -> Passed
             Step::To { body, item, height } => {
                 s = State { body, item, height };
                 end = newtypes_end(sheet, end, i);
-                i = i + 1;
+                i = run_end(sheet, names, &mut due, s, i + 1, n);
             }
         }
     }

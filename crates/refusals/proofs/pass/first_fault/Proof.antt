@@ -1,8 +1,8 @@
 -- `first_fault` finds the first fault. The loop's invariant: what is to find among the records from `i` on, from the state reached, is what
--- was to find among all of them from the start.
+-- was to find among all of them from the start. A step takes one record, and a run behind it as many as it has.
 use Prim.Native.Nat.{_-_, _/_, _≤_}
 use native.Mathlib.Omega.{arith}
-use mathlib.Core.Path.{_≡_}
+use mathlib.Core.Path.{_≡_, _∙_}
 use lib.ListN.{length, drop}
 use borrow.Author.Needs.{needs}
 use Rattle.rules.specs.Record.{records}
@@ -50,19 +50,24 @@ first-fault-spec =
     let turn = c .before .before .before .before .before in
     (turn .before .loop .inv .4, omega arith))
     (λ c. omega arith)
-    (λ c. omega arith)
+    (λ c κs.
+    let told = c .before .before in
+    let step = told .before .before .before .record-step in
+    let loop = told .before .before .before .before .before .before .loop in
+    (sound-found (step .result) _ _ (step .ensures) _ _ _ (told .before .body .given .1), omega arith, loop .inv .0))
+    (λ c. omega (arith, c .run-end .ensures .least))
     (λ c.
-    let told = c .before in
+    let told = c .before .before .before in
     let turn = told .before .before .before .before .before in
     let loop = turn .before .loop in
     let step = told .before .before .before .record-step in
-    let taken = told .before .body .given .1 in (
+    let ran = c .run-end .ensures in (
       loop .inv .0,
-      omega arith,
-      sound-found (step .result) _ _ (step .ensures) _ _ _ taken,
-      pass-again _ _ _ _ _ _ (loop .inv .3) _ (count-below _ _ _ (loop .inv .0) (turn .loop-test .taken))
-          (state-found (step .result) _ _ (step .ensures) _ _ _ taken),
-      c .newtypes-end .ensures,
+      omega (arith, ran .most),
+      ran .sound,
+      ran .same _ ∙ pass-again _ _ _ _ _ _ (loop .inv .3) _ (count-below _ _ _ (loop .inv .0) (turn .loop-test .taken))
+          (state-found (step .result) _ _ (step .ensures) _ _ _ (told .before .body .given .1)),
+      ran .ended _ (c .before .before .newtypes-end .ensures),
     ))
     (λ c κs. search needs)
     (λ c.
