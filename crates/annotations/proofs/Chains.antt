@@ -21,11 +21,7 @@ pub ready-new : (a : ℕ) → Ready (replicate 512 0) (replicate 1024 0) a
 unfolding Ready
 ready-new a = (length-replicate {A = ℕ} 512 0, length-replicate {A = ℕ} 1024 0, λ b. omega (arith, zero-at 512 b))
 
--- other links serve as well
-pub ready-links : (heads links links' : List ℕ) (a : ℕ) → Ready heads links a → length links' ≡ 1024 → Ready heads links' a
-unfolding Ready
-ready-links heads links links' a r size = (r .0, size, r .2)
-
+-- they have none from a later record on
 pub ready-later : (heads links : List ℕ) (a e : ℕ) → Ready heads links a → a ≤ e → Ready heads links e
 unfolding Ready
 ready-later heads links a e r h = (r .0, r .1, λ b. omega (arith, r .2 b))
@@ -73,17 +69,6 @@ module _ (on : ℕ → Bool) (key : ℕ → ℕ) (a : ℕ) where
       go : (p : ℕ) → a ≤ p → p < i + 1 → on p ≡ true → Dec (p ≡ i) → Behind on key a (getD links p 0) (key p % 512) p
       go p l h t (yes same) = absurd (differ (ap on (sym same) ∙ t))
       go p l h t (no other) = c .3 p l (omega arith) t
-
-  -- the link of a record that is not on is of no chain
-  pub chained-kept :
-      (heads links : List ℕ) (i e link : ℕ) → on i ≡ false → Chained on key a heads links e → Chained on key a heads (set links i link) e
-  unfolding Chained
-  chained-kept heads links i e link off c = (
-    c .0,
-    length-set links i link ∙ c .1,
-    c .2,
-    λ p l h t. rw (getD-set-other links i p link 0 (λ same. true≢false (sym t ∙ ap on same ∙ off))) (c .3 p l h t),
-  )
 
   -- a record that is: it stands first in its bucket's chain, before the record that stood there
   pub chained-add :

@@ -18,7 +18,7 @@ use Rattle.types.proofs.Views.{view-cons, view-none}
 use Rattle.diagnostic.specs.Push.{State, pushFound}
 use Rattle.diagnostic.proofs.FoundPushes.{found-none, found-then}
 use Rattle.bodies.specs.declared.runs.Run.the-variants as Run
-use Rattle.bodies.specs.Runs.{EndsAt}
+use Rattle.bodies.specs.Runs.{inRun, EndsAt}
 use Rattle.bodies.specs.Backing.{backingsFrom}
 use Rattle.bodies.proofs.Backings.{backings-all}
 
@@ -55,13 +55,13 @@ module _ (ctx : ValidationContext ℕ Span) (sub : ℕ) (body : List (Rec ℕ Sp
 
 -- the head
 module _ (ctx : ValidationContext ℕ Span) (sheet : List ℕ) (n h : ℕ) (s t : State) where
-  pub no-head : EndsAt Run.Front sheet 0 n h → n ≤ h → s ≡ pushFound (violationsOf ctx (viewOf sheet 0 n)) s
+  pub no-head : EndsAt (inRun Run.Front) sheet 0 n h → n ≤ h → s ≡ pushFound (violationsOf ctx (viewOf sheet 0 n)) s
   unfolding EndsAt violationsOf
   no-head ends le =
       sym (found-none s) ∙ ap (λ rs. pushFound (declarationViolations ctx rs) s) (sym (view-none sheet h n le) ∙ ends .1)
 
   pub at-head :
-      (sub : ℕ) → EndsAt Run.Front sheet 0 n h → h < n → sub ≡ subIn (recordBytes sheet h) →
+      (sub : ℕ) → EndsAt (inRun Run.Front) sheet 0 n h → h < n → sub ≡ subIn (recordBytes sheet h) →
       t ≡ pushFound (bodyViolations ctx sub (viewOf sheet (h + 1) n)) s → t ≡ pushFound (violationsOf ctx (viewOf sheet 0 n)) s
   unfolding EndsAt violationsOf viewAt
   at-head sub ends l hs ht =

@@ -4,7 +4,7 @@ use native.Mathlib.Omega.{arith}
 use mathlib.Core.Path.{_≡_, refl, sym, ap, ap₂, _∙_}
 use mathlib.Core.Bool.{Bool, true, false, not, _&&_}
 use mathlib.Core.List.{List, []}
-use lib.ListN.{length, getD, set}
+use lib.ListN.{length, set}
 use borrow.Author.Tests.{not-true}
 use Rattle.rules.specs.Words.{anyOf, member, items}
 use Rattle.rules.specs.Kind
@@ -18,12 +18,14 @@ use Rattle.diagnostic.proofs.FoundPushes.{found-none}
 use Rattle.annotations.specs.Chains.{hasKey, Chained, Ready}
 use Rattle.annotations.proofs.Chains.{chained-none, chained-other, chained-ready}
 use Rattle.annotations.proofs.FoundSteps.{found-step}
-use Rattle.bodies.specs.Earlier.{earlier}
-use Rattle.bodies.specs.Met.{ofKind, valueAt}
+use Rattle.bodies.specs.declared.seen.Seen.{Seen}
+use Rattle.bodies.specs.Seen.{latest, Marked}
+use Rattle.bodies.specs.Earlier.{valuesOf, earlier}
+use Rattle.bodies.specs.Met.{ofKind}
 use Rattle.bodies.specs.declared.runs.Run.the-variants.{FieldItem}
-use Rattle.bodies.specs.Runs.{EndsAt, AllIn}
+use Rattle.bodies.specs.Runs.{inRun, EndsAt, AllIn}
 use Rattle.bodies.specs.Items.{fieldFound}
-use Rattle.bodies.proofs.Passing.{values, gone, before, Known, known-start, known-other, known-member, known-gone, known-met}
+use Rattle.bodies.proofs.Passing.{values, gone, before, Known, known-start, known-other, known-room, known-member, known-gone, known-met}
 use Rattle.bodies.proofs.Turns.{namesOf, kind-is, kind-not, turn-none}
 use Rattle.bodies.proofs.Retired.{retired-fields}
 use Rattle.bodies.proofs.FieldTurns.{fieldsLeft, field-not, field-inner, field-other, field-turn}
@@ -49,15 +51,15 @@ module _ (table sheet : List ℕ) (a e : ℕ) where
       go ih false t = rw (t, ih)
 
   -- before record i of the list
-  abbrev pub FieldsKnown : List ℕ → List ℕ → List ℕ → List ℕ → List ℕ → State → State → ℕ → Type 0
-  FieldsKnown tombstones ordinals links names nameLinks s₀ s i =
+  abbrev pub FieldsKnown : ℕ → Seen → List ℕ → List ℕ → List ℕ → State → State → ℕ → Type 0
+  FieldsKnown tombstones seen marks names nameLinks s₀ s i =
       (length (s .0) ≡ length (s₀ .0))
       × (i ≤ e)
-      × Known 11 12 sheet a e tombstones ordinals links i
+      × Known 11 12 sheet a e tombstones seen marks i
       × Chained (ofKind 11 sheet) (entryOf idPart table) a names nameLinks i
       × (pushFound (fieldsLeft table sheet a e tombs i) s ≡ pushFound (fieldListViolations (contextBy table sheet) (viewOf sheet a e)) s₀)
 
-  fields-start : fieldsLeft table sheet a e tombs a ≡ fieldListViolations (contextBy table sheet) (viewOf sheet a e)
+  pub fields-start : fieldsLeft table sheet a e tombs a ≡ fieldListViolations (contextBy table sheet) (viewOf sheet a e)
   unfolding fieldsLeft fieldListViolations earlier
   fields-start =
       let none : a - a ≡ 0 = omega arith in
@@ -67,105 +69,112 @@ module _ (table sheet : List ℕ) (a e : ℕ) where
 
   -- the start of the list
   pub fields-none :
-      (tombstones ordinals links links' names nameLinks : List ℕ) (s : State) → a ≤ e → Ready ordinals links a → Ready names nameLinks a →
-      Chained (ofKind 12 sheet) (valueAt sheet) a tombstones links' e → FieldsKnown tombstones ordinals links' names nameLinks s s a
-  fields-none tombstones ordinals links links' names nameLinks s le r₁ r₂ c = (
+      (tombstones : ℕ) (ordinals marks names nameLinks : List ℕ) (s : State) → a ≤ e → e ≤ 1024 → Ready names nameLinks a →
+      (length ordinals ≡ 1024)
+      × (length marks ≡ 1021)
+      × (tombstones ≤ e - a)
+      × (latest ordinals 0 tombstones ≡ valuesOf 12 (viewOf sheet a e))
+      × Marked ordinals marks tombstones →
+      FieldsKnown tombstones (record { ordinals = ordinals; len = tombstones }) marks names nameLinks s s a
+  fields-none tombstones ordinals marks names nameLinks s le small r c = (
     refl,
     le,
-    known-start 11 12 sheet a e tombstones ordinals links links' r₁ c,
-    chained-none (ofKind 11 sheet) (entryOf idPart table) a names nameLinks r₂,
+    known-start 11 12 sheet a e ordinals marks tombstones (λ f. absurd (omega (arith, f))) small (c .0) (c .1) (c .3) (c .4),
+    chained-none (ofKind 11 sheet) (entryOf idPart table) a names nameLinks r,
     ap (λ fs. pushFound fs s) fields-start,
   )
 
-  module _ (tombstones ordinals links names nameLinks : List ℕ) (s₀ s : State) (i : ℕ) where
+  module _ (tombstones : ℕ) (seen : Seen) (marks names nameLinks : List ℕ) (s₀ s : State) (i : ℕ) where
     -- a record that is no field
     pub fields-other :
-        (t : State) (k : ℕ) → FieldsKnown tombstones ordinals links names nameLinks s₀ s i → i < e → k ≡ kindIn (recordBytes sheet i) →
+        (t : State) (k : ℕ) → FieldsKnown tombstones seen marks names nameLinks s₀ s i → i < e → k ≡ kindIn (recordBytes sheet i) →
         (k ≡ 11 → ⊥) → length (t .0) ≡ length (s .0) →
         t ≡ pushFound (foundIf 1 (is Kind.Invariant (viewAt sheet i)) (viewAt sheet i .place)) s →
-        FieldsKnown tombstones ordinals links names nameLinks s₀ t (i + 1)
+        FieldsKnown tombstones seen marks names nameLinks s₀ t (i + 1)
     fields-other t k known h hk ne size ht =
         let test : is Kind.Field (viewAt sheet i) ≡ false = kind-not sheet i k 11 hk ne in (
           size ∙ known .0,
           omega arith,
-          known-other 11 12 sheet a e tombstones ordinals links i test (known .2),
+          known-other 11 12 sheet a e tombstones seen marks i (known .2) h test,
           chained-other (ofKind 11 sheet) (entryOf idPart table) a names nameLinks i test (known .3),
-          found-step _ _ _ s t _ (field-other table sheet a e tombs i (known .2 .0) h test) ht (known .4),
+          found-step _ _ _ s t _ (field-other table sheet a e tombs i (known .2 .2) h test) ht (known .4),
         )
 
     -- a record of a field's parts
     fields-inner :
-        FieldsKnown tombstones ordinals links names nameLinks s₀ s i → i < e → startsFieldItem (viewAt sheet i) ≡ false →
-        FieldsKnown tombstones ordinals links names nameLinks s₀ s (i + 1)
+        FieldsKnown tombstones seen marks names nameLinks s₀ s i → i < e → startsFieldItem (viewAt sheet i) ≡ false →
+        FieldsKnown tombstones seen marks names nameLinks s₀ s (i + 1)
     fields-inner known h st =
         let test : is Kind.Field (viewAt sheet i) ≡ false = field-not (viewAt sheet i) st in (
           known .0,
           omega arith,
-          known-other 11 12 sheet a e tombstones ordinals links i test (known .2),
+          known-other 11 12 sheet a e tombstones seen marks i (known .2) h test,
           chained-other (ofKind 11 sheet) (entryOf idPart table) a names nameLinks i test (known .3),
-          ap (λ fs. pushFound fs s) (sym (field-inner table sheet a e tombs i (known .2 .0) h st)) ∙ known .4,
+          ap (λ fs. pushFound fs s) (sym (field-inner table sheet a e tombs i (known .2 .2) h st)) ∙ known .4,
         )
+
+    -- there is room for one field more
+    pub fields-room :
+        (k : ℕ) → FieldsKnown tombstones seen marks names nameLinks s₀ s i → i < e → k ≡ kindIn (recordBytes sheet i) → k ≡ 11 → seen .len < 1024
+    fields-room k known h hk eq = known-room 11 12 sheet a e tombstones seen marks i (known .2) h (kind-is sheet i k 11 hk eq)
 
   -- all of a field's parts
   fields-parts :
-      (tombstones ordinals links names nameLinks : List ℕ) (s₀ s : State) (i n : ℕ) → FieldsKnown tombstones ordinals links names nameLinks s₀ s i →
-      i + n ≤ e → AllIn FieldItem sheet i (i + n) → FieldsKnown tombstones ordinals links names nameLinks s₀ s (i + n)
+      (tombstones : ℕ) (seen : Seen) (marks names nameLinks : List ℕ) (s₀ s : State) (i n : ℕ) → FieldsKnown tombstones seen marks names nameLinks s₀ s i →
+      i + n ≤ e → AllIn (inRun FieldItem) sheet i (i + n) → FieldsKnown tombstones seen marks names nameLinks s₀ s (i + n)
   unfolding AllIn
-  fields-parts tombstones ordinals links names nameLinks s₀ s i zero known h all = let none : i + 0 ≡ i = omega arith in rw none known
-  fields-parts tombstones ordinals links names nameLinks s₀ s i (suc n) known h all =
+  fields-parts tombstones seen marks names nameLinks s₀ s i zero known h all = let none : i + 0 ≡ i = omega arith in rw none known
+  fields-parts tombstones seen marks names nameLinks s₀ s i (suc n) known h all =
       let more : i + suc n ≡ i + n + 1 = omega arith in
       rw more
-      (fields-inner tombstones ordinals links names nameLinks s₀ s (i + n)
-      (fields-parts tombstones ordinals links names nameLinks s₀ s i n known (omega arith) (λ j l lt. all j l (omega arith))) (omega arith)
+      (fields-inner tombstones seen marks names nameLinks s₀ s (i + n)
+      (fields-parts tombstones seen marks names nameLinks s₀ s i n known (omega arith) (λ j l lt. all j l (omega arith))) (omega arith)
       (not-true (startsFieldItem (viewAt sheet (i + n))) (all (i + n) (omega arith) (omega arith))))
 
   -- a field
   pub fields-field :
-      (tombstones ordinals links ordinals' links' names nameLinks names' nameLinks' : List ℕ) (s₀ s t : State) (i k ordinal end : ℕ) (tombstoned met renamed : Bool) →
-      FieldsKnown tombstones ordinals links names nameLinks s₀ s i → i < e → e ≤ 1024 → k ≡ kindIn (recordBytes sheet i) → k ≡ 11 →
-      ordinal ≡ valueIn (recordBytes sheet i) → tombstoned ≡ hasKey (ofKind 12 sheet) (valueAt sheet) a ordinal (e - a) →
-      (met ≡ hasKey (ofKind 11 sheet) (valueAt sheet) a ordinal (i - a))
-      × (ordinals' ≡ set ordinals (ordinal % 512) (i + 1))
-      × (links' ≡ set links i (getD ordinals (ordinal % 512) 0)) →
+      (tombstones : ℕ) (seen : Seen) (marks names nameLinks names' nameLinks' : List ℕ) (s₀ s t : State) (i k ordinal p end : ℕ) (tombstoned met renamed : Bool) →
+      FieldsKnown tombstones seen marks names nameLinks s₀ s i → i < e → k ≡ kindIn (recordBytes sheet i) → k ≡ 11 →
+      ordinal ≡ valueIn (recordBytes sheet i) → tombstoned ≡ member ordinal (latest (seen .ordinals) 0 (tombstones - 0)) →
+      met ≡ member ordinal (latest (seen .ordinals) tombstones (seen .len - tombstones)) → p ≡ ordinal % 1021 →
       (renamed ≡ hasKey (ofKind 11 sheet) (entryOf idPart table) a (entryOf idPart table i) (i - a))
       × Chained (ofKind 11 sheet) (entryOf idPart table) a names' nameLinks' (i + 1) →
-      EndsAt FieldItem sheet (i + 1) e end × (end ≤ e) × (i + 1 ≤ e → i + 1 ≤ end) × AllIn FieldItem sheet (i + 1) end →
+      EndsAt (inRun FieldItem) sheet (i + 1) e end × (end ≤ e) × (i + 1 ≤ e → i + 1 ≤ end) × AllIn (inRun FieldItem) sheet (i + 1) end →
       length (t .0) ≡ length (s .0) → t ≡ pushFound (fieldFound table sheet i end tombstoned met renamed) s →
-      FieldsKnown tombstones ordinals' links' names' nameLinks' s₀ t end
+      FieldsKnown tombstones (record { ordinals = set (seen .ordinals) (seen .len) ordinal; len = seen .len + 1 }) (set marks p 1) names' nameLinks' s₀ t end
   unfolding viewAt
-  fields-field tombstones ordinals links ordinals' links' names nameLinks names' nameLinks' s₀ s t i k ordinal end tombstoned met renamed known h small hk eq ho ht hm hr ends size hs =
+  fields-field tombstones seen marks names nameLinks names' nameLinks' s₀ s t i k ordinal p end tombstoned met renamed known h hk eq ho ht hm hp hr ends size hs =
       let test : is Kind.Field (viewAt sheet i) ≡ true = kind-is sheet i k 11 hk eq in
       let behind : i + 1 ≤ end = ends .2 (omega arith) in
       let last : i + 1 + (end - (i + 1)) ≡ end = omega arith in
-      let next : FieldsKnown tombstones ordinals' links' names' nameLinks' s₀ t (i + 1) = (
+      let more : Seen = record { ordinals = set (seen .ordinals) (seen .len) ordinal; len = seen .len + 1 } in
+      let dead : tombstoned ≡ member (valueIn (recordBytes sheet i)) tombs =
+      known-gone 11 12 sheet a e tombstones seen marks i (known .2) ordinal tombstoned ht ∙ ap (λ v. member v tombs) ho in
+      let met-here : met ≡ member (valueIn (recordBytes sheet i)) (values (before 11 12 sheet a e i)) =
+      known-met 11 12 sheet a e tombstones seen marks i (known .2) ordinal met hm ∙ ap (λ v. member v (values (before 11 12 sheet a e i))) ho in
+      let next : FieldsKnown tombstones more (set marks p 1) names' nameLinks' s₀ t (i + 1) = (
         size ∙ known .0,
         omega arith,
-        rw (hm .1, hm .2) (known-member 11 12 sheet a e tombstones ordinals links i ordinal (omega arith) (λ f. absurd (omega (arith, f))) test ho (known .2)),
+        rw hp (known-member 11 12 sheet a e tombstones seen marks i (known .2) ordinal h test ho),
         hr .1,
         found-step _ _ _ s t _
-            (field-turn table sheet a e tombs i end tombstoned met renamed (known .2 .0) h test (ends .0)
-            (known-gone 11 12 sheet a e ordinal tombstoned ht ∙ ap (λ v. member v tombs) ho)
-            (ap₂ (λ g m. not g && m) (known-gone 11 12 sheet a e ordinal tombstoned ht ∙ ap (λ v. member v tombs) ho) (known-met 11 12 sheet a e i ordinal met (hm .0) ∙ ap (λ v. member v (values (before 11 12 sheet a e i))) ho))
+            (field-turn table sheet a e tombs i end tombstoned met renamed (known .2 .2) h test (ends .0)
+            dead (ap₂ (λ g m. not g && m) dead met-here)
             (hr .0 ∙ has-names i (i - a)))
             hs (known .4),
       ) in
       rw last at
-      (fields-parts tombstones ordinals' links' names' nameLinks' s₀ t (i + 1) (end - (i + 1)) next (omega (arith, ends .1)) (rw (sym last) at (ends .3)))
+      (fields-parts tombstones more (set marks p 1) names' nameLinks' s₀ t (i + 1) (end - (i + 1)) next (omega (arith, ends .1)) (rw (sym last) at (ends .3)))
 
   -- the end of the list
   pub fields-end :
-      (tombstones ordinals links names nameLinks : List ℕ) (s₀ s : State) (i : ℕ) → FieldsKnown tombstones ordinals links names nameLinks s₀ s i → e ≤ i →
-      (s ≡ pushFound (fieldListViolations (contextBy table sheet) (viewOf sheet a e)) s₀)
-      × Ready tombstones links e
-      × Ready ordinals links e
-      × Ready names nameLinks e
+      (tombstones : ℕ) (seen : Seen) (marks names nameLinks : List ℕ) (s₀ s : State) (i : ℕ) → FieldsKnown tombstones seen marks names nameLinks s₀ s i → e ≤ i →
+      (s ≡ pushFound (fieldListViolations (contextBy table sheet) (viewOf sheet a e)) s₀) × Ready names nameLinks e
   unfolding fieldsLeft
-  fields-end tombstones ordinals links names nameLinks s₀ s i known h = (
+  fields-end tombstones seen marks names nameLinks s₀ s i known h = (
     sym (found-none s)
         ∙ ap (λ fs. pushFound fs s)
         (sym (turn-none (contextBy table sheet) fieldScheme (fieldItemViolations (contextBy table sheet)) startsFieldItem 11 sheet a e tombs i h))
         ∙ known .4,
-    chained-ready (ofKind 12 sheet) (valueAt sheet) a tombstones links e e (known .2 .1) (omega arith),
-    chained-ready (ofKind 11 sheet) (valueAt sheet) a ordinals links i e (known .2 .2) (known .1),
     chained-ready (ofKind 11 sheet) (entryOf idPart table) a names nameLinks i e (known .3) (known .1),
   )

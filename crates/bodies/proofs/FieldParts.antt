@@ -11,8 +11,8 @@ use Rattle.names.specs.View.{viewOf, contextBy}
 use Rattle.types.proofs.Views.{view-none}
 use Rattle.diagnostic.specs.Push.{State, pushFound}
 use Rattle.diagnostic.proofs.FoundPushes.{found-none, found-then}
-use Rattle.bodies.specs.declared.runs.Run.the-variants.{Annotations, FieldType}
-use Rattle.bodies.specs.Runs.{EndsAt}
+use Rattle.bodies.specs.declared.field.Parts.{Parts}
+use Rattle.bodies.specs.Runs.{EndsAt, PartsAt}
 
 -- where there are no annotations nothing is found, and where there is no condition
 module _ (table sheet : List ℕ) (ta te a e : ℕ) (s : State) (none : e ≤ a) where
@@ -25,11 +25,11 @@ module _ (table sheet : List ℕ) (ta te a e : ℕ) (s : State) (none : e ≤ a)
   no-condition = rw (view-none sheet a e none) (sym (found-none s))
 
 pub field-found :
-    (table sheet : List ℕ) (a e ta te : ℕ) (s t u v : State) → EndsAt Annotations sheet a e ta → EndsAt FieldType sheet ta e te →
-    t ≡ pushFound (typeViolations (contextBy table sheet) (viewOf sheet ta te)) s →
-    u ≡ pushFound (annotationsViolations (contextBy table sheet) (viewOf sheet ta te) (viewOf sheet a ta)) t →
-    v ≡ pushFound (conditionViolations (contextBy table sheet) (viewOf sheet ta te) (viewOf sheet te e)) u →
-    v ≡ pushFound (fieldViolations (contextBy table sheet) (viewOf sheet a e)) s
-unfolding EndsAt fieldViolations
-field-found table sheet a e ta te s t u v annotations type h₁ h₂ h₃ =
-    rw (← annotations .0, ← annotations .1, ← type .0, ← type .1) (found-then _ _ s u v (found-then _ _ s t u h₁ h₂) h₃)
+    (table sheet : List ℕ) (a : ℕ) (parts : Parts) (s t u v : State) → PartsAt sheet a parts →
+    t ≡ pushFound (typeViolations (contextBy table sheet) (viewOf sheet (parts .«type_start») (parts .«type_end»))) s →
+    u ≡ pushFound (annotationsViolations (contextBy table sheet) (viewOf sheet (parts .«type_start») (parts .«type_end»)) (viewOf sheet a (parts .«type_start»))) t →
+    v ≡ pushFound (conditionViolations (contextBy table sheet) (viewOf sheet (parts .«type_start») (parts .«type_end»)) (viewOf sheet (parts .«type_end») (parts .end))) u →
+    v ≡ pushFound (fieldViolations (contextBy table sheet) (viewOf sheet a (parts .end))) s
+unfolding PartsAt EndsAt fieldViolations
+field-found table sheet a parts s t u v at h₁ h₂ h₃ =
+    rw (← at .0 .0, ← at .0 .1, ← at .1 .0, ← at .1 .1) (found-then _ _ s u v (found-then _ _ s t u h₁ h₂) h₃)

@@ -19,7 +19,7 @@ use Rattle.names.specs.View.{viewAt, viewOf, contextBy}
 use Rattle.diagnostic.specs.Push.{State, pushFound}
 use Rattle.diagnostic.proofs.FoundPushes.{found-then}
 use Rattle.bodies.specs.declared.runs.Run.the-variants.{FieldItem}
-use Rattle.bodies.specs.Runs.{EndsAt}
+use Rattle.bodies.specs.Runs.{inRun, EndsAt}
 use Rattle.bodies.specs.Ordinal.{memberFound}
 use Rattle.bodies.specs.Items.{fieldFound}
 use Rattle.bodies.proofs.Passing.{values, before}
@@ -93,7 +93,7 @@ module _ (table sheet : List ℕ) (a e : ℕ) (gone : List ℕ) where
 
   -- a field
   pub field-turn :
-      (i end : ℕ) (tombstoned again renamed : Bool) → a ≤ i → i < e → is Kind.Field (at i) ≡ true → EndsAt FieldItem sheet (i + 1) e end →
+      (i end : ℕ) (tombstoned again renamed : Bool) → a ≤ i → i < e → is Kind.Field (at i) ≡ true → EndsAt (inRun FieldItem) sheet (i + 1) e end →
       tombstoned ≡ member (at i .value) gone →
       (not tombstoned && again) ≡ (not (member (at i .value) gone) && member (at i .value) (values (fieldsBefore i))) →
       renamed ≡ anyOf (ctx .same (at i .name)) (namesOf (fieldsBefore i)) →

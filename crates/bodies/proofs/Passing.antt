@@ -2,19 +2,20 @@
 use Prim.Native.Nat.{ℕ, zero, suc, _+_, _-_, _%_, _≤_, _<_}
 use native.Mathlib.Omega.{arith}
 use mathlib.Core.Path.{_≡_, refl, sym, ap, _∙_}
-use mathlib.Core.Bool.{Bool, true, false, _&&_, _||_}
+use mathlib.Core.Bool.{Bool, true, false}
 use mathlib.Core.List.{List, [], _∷_, _++_, map}
-use lib.ListN.{getD, set}
+use lib.ListN.{length, set, length-set}
 use lib.Dec.{eqb}
-use borrow.Author.Tests.{eqb-true, ne-eqb}
+use borrow.Author.Tests.{eqb-true}
 use Rattle.rules.specs.declared.span.Span.{Span}
-use Rattle.rules.specs.Words.{onlyIf, anyOf, member, select}
+use Rattle.rules.specs.Words.{onlyIf, member, select}
 use Rattle.rules.specs.Record.{Rec, is, valueIn, recordBytes}
 use Rattle.names.specs.View.{viewAt, viewFrom, viewOf}
-use Rattle.annotations.specs.Chains.{hasKey, Chained, Ready}
-use Rattle.annotations.proofs.Chains.{ready-links, chained-sizes, chained-none, chained-other, chained-kept, chained-add}
+use Rattle.types.proofs.Views.{view-cons}
+use Rattle.bodies.specs.declared.seen.Seen.{Seen}
+use Rattle.bodies.specs.Seen.{latest, Marked}
 use Rattle.bodies.specs.Earlier.{valuesOf, earlier}
-use Rattle.bodies.specs.Met.{ofKind, valueAt}
+use Rattle.bodies.proofs.Marks.{latest-above, latest-store, length-latest, marked-fewer, marked-store}
 
 -- the records of a kind before the next record
 pub earlier-next :
@@ -26,51 +27,42 @@ earlier-next kind sheet a i le =
     let back : a + (i - a) ≡ i = omega arith in
     rw (more, back)
 
+-- no record has two kinds
+two-kinds :
+    (k j : ℕ) → (k ≡ j → ⊥) → (rs : List (Rec ℕ Span)) → length (valuesOf k rs) + length (select (is j) rs) ≤ length rs
+unfolding valuesOf select
+two-kinds k j ne [] = omega arith
+two-kinds k j ne (r ∷ rs) = go (two-kinds k j ne rs) (eqb (r .kind) k) (eqb (r .kind) j) refl refl
+  where
+    go :
+        length (valuesOf k rs) + length (select (is j) rs) ≤ length rs → (b c : Bool) → eqb (r .kind) k ≡ b → eqb (r .kind) j ≡ c →
+        length (valuesOf k (r ∷ rs)) + length (select (is j) (r ∷ rs)) ≤ length (r ∷ rs)
+    go ih true true hb hc = absurd (ne (sym (eqb-true (r .kind) k hb) ∙ eqb-true (r .kind) j hc))
+    go ih true false hb hc = rw (hb, hc) (omega arith)
+    go ih false true hb hc = rw (hb, hc) (omega arith)
+    go ih false false hb hc = rw (hb, hc) (omega arith)
+
+length-view : (sheet : List ℕ) (a n : ℕ) → length (viewFrom sheet a n) ≡ n
+unfolding viewFrom
+length-view sheet a zero = refl
+length-view sheet a (suc n) = ap suc (length-view sheet (suc a) n)
+
+-- how many records of a kind are still to come
+left-member :
+    (kind : ℕ) (sheet : List ℕ) (i e : ℕ) → i < e → is kind (viewAt sheet i) ≡ true →
+    length (select (is kind) (viewOf sheet i e)) ≡ suc (length (select (is kind) (viewOf sheet (i + 1) e)))
+unfolding select
+left-member kind sheet i e h t = rw (view-cons sheet i e h, t)
+
+left-other :
+    (kind : ℕ) (sheet : List ℕ) (i e : ℕ) → i < e → is kind (viewAt sheet i) ≡ false →
+    length (select (is kind) (viewOf sheet i e)) ≡ length (select (is kind) (viewOf sheet (i + 1) e))
+unfolding select
+left-other kind sheet i e h t = rw (view-cons sheet i e h, t)
+
 -- the values of records
 abbrev pub values : List (Rec ℕ Span) → List ℕ
 values = map (λ r. r .value)
-
--- the values in the chains are those of the records of the kind
-module _ (kind : ℕ) (sheet : List ℕ) (v : ℕ) where
-  has-earlier : (a n : ℕ) → hasKey (ofKind kind sheet) (valueAt sheet) a v n ≡ member v (values (earlier kind sheet a n))
-  unfolding hasKey anyOf earlier viewAt
-  has-earlier a zero = refl
-  has-earlier a (suc n) = go (has-earlier a n) (ofKind kind sheet (a + n)) refl
-    where
-      go :
-          hasKey (ofKind kind sheet) (valueAt sheet) a v n ≡ member v (values (earlier kind sheet a n)) → (b : Bool) → ofKind kind sheet (a + n) ≡ b →
-          hasKey (ofKind kind sheet) (valueAt sheet) a v (suc n) ≡ member v (values (earlier kind sheet a (suc n)))
-      go ih true t = rw (t, ih)
-      go ih false t = rw (t, ih)
-
-  -- from the first record on
-  abbrev has : ℕ → Bool
-  has i = ofKind kind sheet i && eqb v (valueAt sheet i)
-
-  swap : (x y z : Bool) → (x || (y || z)) ≡ (y || (x || z))
-  swap true true z = refl
-  swap true false z = refl
-  swap false y z = refl
-
-  has-first : (a n : ℕ) → hasKey (ofKind kind sheet) (valueAt sheet) a v (suc n) ≡ (has a || hasKey (ofKind kind sheet) (valueAt sheet) (suc a) v n)
-  unfolding hasKey
-  has-first a zero = let none : a + 0 ≡ a = omega arith in rw none
-  has-first a (suc n) =
-      let next : a + suc n ≡ suc a + n = omega arith in
-      ap (λ b. has (a + suc n) || b) (has-first a n)
-      ∙ ap (λ i. has i || (has a || hasKey (ofKind kind sheet) (valueAt sheet) (suc a) v n)) next
-      ∙ swap (has (suc a + n)) (has a) (hasKey (ofKind kind sheet) (valueAt sheet) (suc a) v n)
-
-  has-view : (a n : ℕ) → hasKey (ofKind kind sheet) (valueAt sheet) a v n ≡ member v (valuesOf kind (viewFrom sheet a n))
-  unfolding hasKey anyOf valuesOf select viewFrom viewAt
-  has-view a zero = refl
-  has-view a (suc n) = has-first a n ∙ go (has-view (suc a) n) (ofKind kind sheet a) refl
-    where
-      go :
-          hasKey (ofKind kind sheet) (valueAt sheet) (suc a) v n ≡ member v (valuesOf kind (viewFrom sheet (suc a) n)) → (b : Bool) → ofKind kind sheet a ≡ b →
-          (has a || hasKey (ofKind kind sheet) (valueAt sheet) (suc a) v n) ≡ member v (valuesOf kind (viewFrom sheet a (suc n)))
-      go ih true t = rw (t, ih)
-      go ih false t = rw (t, ih)
 
 module _ (kind tomb : ℕ) (sheet : List ℕ) (a e : ℕ) where
   abbrev pub gone : List ℕ
@@ -79,45 +71,86 @@ module _ (kind tomb : ℕ) (sheet : List ℕ) (a e : ℕ) where
   abbrev pub before : ℕ → List (Rec ℕ Span)
   before i = earlier kind sheet a (i - a)
 
-  -- all tombstones are in their chains, and the items before record i in theirs
-  abbrev pub Known : List ℕ → List ℕ → List ℕ → ℕ → Type 0
-  Known tombstones ordinals links i =
-      (a ≤ i)
-      × Chained (ofKind tomb sheet) (valueAt sheet) a tombstones links e
-      × Chained (ofKind kind sheet) (valueAt sheet) a ordinals links i
+  -- the numbers met are the ordinals of all tombstones, and then those of the items before record i; they have their marks, and there is room for
+  -- those still to come
+  abbrev pub Known : ℕ → Seen → List ℕ → ℕ → Type 0
+  Known tombstones seen marks i =
+      (length (seen .ordinals) ≡ 1024)
+      × (length marks ≡ 1021)
+      × (a ≤ i)
+      × (tombstones ≤ seen .len)
+      × (seen .len + length (select (is kind) (viewOf sheet i e)) ≤ 1024)
+      × (latest (seen .ordinals) 0 tombstones ≡ gone)
+      × (latest (seen .ordinals) tombstones (seen .len - tombstones) ≡ values (before i))
+      × Marked (seen .ordinals) marks (seen .len)
 
   pub known-start :
-      (tombstones ordinals links links' : List ℕ) → Ready ordinals links a → Chained (ofKind tomb sheet) (valueAt sheet) a tombstones links' e →
-      Known tombstones ordinals links' a
-  known-start tombstones ordinals links links' r c = (
-    omega arith,
-    c,
-    chained-none (ofKind kind sheet) (valueAt sheet) a ordinals links'
-        (ready-links ordinals links links' a r (chained-sizes (ofKind tomb sheet) (valueAt sheet) a tombstones links' e c .1)),
-  )
+      (numbers marks : List ℕ) (n : ℕ) → (tomb ≡ kind → ⊥) → e ≤ 1024 → length numbers ≡ 1024 → length marks ≡ 1021 → latest numbers 0 n ≡ gone →
+      Marked numbers marks n → Known n (record { ordinals = numbers; len = n }) marks a
+  unfolding earlier latest
+  known-start numbers marks n ne small size₁ size₂ h m =
+      let none : a - a ≡ 0 = omega arith in
+      let fresh : n - n ≡ 0 = omega arith in
+      let count : n ≡ length gone = sym (length-latest numbers 0 n) ∙ ap length h in (
+        size₁,
+        size₂,
+        omega arith,
+        omega arith,
+        omega (arith, two-kinds tomb kind ne (viewOf sheet a e), length-view sheet a (e - a), count),
+        h,
+        rw (none, fresh),
+        m,
+      )
 
-  pub known-other :
-      (tombstones ordinals links : List ℕ) (i : ℕ) → is kind (viewAt sheet i) ≡ false → Known tombstones ordinals links i →
-      Known tombstones ordinals links (i + 1)
-  known-other tombstones ordinals links i t k =
-      (omega (arith, k .0), k .1, chained-other (ofKind kind sheet) (valueAt sheet) a ordinals links i t (k .2))
+  module _ (tombstones : ℕ) (seen : Seen) (marks : List ℕ) (i : ℕ) (k : Known tombstones seen marks i) where
+    pub known-other : i < e → is kind (viewAt sheet i) ≡ false → Known tombstones seen marks (i + 1)
+    known-other h t = (
+      k .0,
+      k .1,
+      omega (arith, k .2),
+      k .3,
+      omega (arith, k .4, left-other kind sheet i e h t),
+      k .5,
+      k .6 ∙ ap values (sym (earlier-next kind sheet a i (k .2) ∙ ap (λ b. onlyIf b (viewAt sheet i ∷ []) ++ before i) t)),
+      k .7,
+    )
 
-  pub known-member :
-      (tombstones ordinals links : List ℕ) (i v : ℕ) → i < 1024 → (kind ≡ tomb → ⊥) → is kind (viewAt sheet i) ≡ true →
-      v ≡ valueIn (recordBytes sheet i) → Known tombstones ordinals links i →
-      Known tombstones (set ordinals (v % 512) (i + 1)) (set links i (getD ordinals (v % 512) 0)) (i + 1)
-  known-member tombstones ordinals links i v room ne t hv k = (
-    omega (arith, k .0),
-    chained-kept (ofKind tomb sheet) (valueAt sheet) a tombstones links i e (getD ordinals (v % 512) 0)
-        (ne-eqb (viewAt sheet i .kind) tomb (λ f. ne (sym (eqb-true (viewAt sheet i .kind) kind t) ∙ f))) (k .1),
-    chained-add (ofKind kind sheet) (valueAt sheet) a ordinals links i (v % 512) t (ap (λ n. n % 512) hv) room (k .2),
-  )
+    pub known-room : i < e → is kind (viewAt sheet i) ≡ true → seen .len < 1024
+    known-room h t = omega (arith, k .4, left-member kind sheet i e h t)
 
-  -- what the chains say
-  pub known-gone :
-      (v : ℕ) (tombstoned : Bool) → tombstoned ≡ hasKey (ofKind tomb sheet) (valueAt sheet) a v (e - a) → tombstoned ≡ member v gone
-  known-gone v tombstoned h = h ∙ has-view tomb sheet v a (e - a)
+    pub known-member :
+        (v : ℕ) → i < e → is kind (viewAt sheet i) ≡ true → v ≡ valueIn (recordBytes sheet i) →
+        Known tombstones (record { ordinals = set (seen .ordinals) (seen .len) v; len = seen .len + 1 }) (set marks (v % 1021) 1) (i + 1)
+    unfolding viewAt
+    known-member v h t hv =
+        let room : seen .len < length (seen .ordinals) = omega (arith, k .0, known-room h t) in
+        let more : seen .len + 1 - tombstones ≡ seen .len - tombstones + 1 = omega (arith, k .3) in (
+          length-set (seen .ordinals) (seen .len) v ∙ k .0,
+          length-set marks (v % 1021) 1 ∙ k .1,
+          omega (arith, k .2),
+          omega (arith, k .3),
+          omega (arith, k .4, left-member kind sheet i e h t),
+          latest-above (seen .ordinals) (seen .len) v 0 tombstones (omega (arith, k .3)) ∙ k .5,
+          ap (latest (set (seen .ordinals) (seen .len) v) tombstones) more
+              ∙ latest-store (seen .ordinals) tombstones (seen .len - tombstones) (seen .len) v (omega (arith, k .3)) room
+              ∙ ap (λ xs. v ∷ xs) (k .6)
+              ∙ ap (λ x. x ∷ values (before i)) hv
+              ∙ ap values (sym (earlier-next kind sheet a i (k .2) ∙ ap (λ b. onlyIf b (viewAt sheet i ∷ []) ++ before i) t)),
+          marked-store (seen .ordinals) marks (seen .len) v room (k .1) (k .7),
+        )
 
-  pub known-met :
-      (i v : ℕ) (met : Bool) → met ≡ hasKey (ofKind kind sheet) (valueAt sheet) a v (i - a) → met ≡ member v (values (before i))
-  known-met i v met h = h ∙ has-earlier kind sheet v a (i - a)
+    -- the numbers of the tombstones have their marks, and so have those of the items
+    pub known-first : (0 ≤ tombstones) × (tombstones ≤ 1024) × Marked (seen .ordinals) marks tombstones
+    known-first = (omega arith, omega (arith, k .3, k .4), marked-fewer (seen .ordinals) marks tombstones (seen .len) (k .3) (k .7))
+
+    pub known-last : (tombstones ≤ seen .len) × (seen .len ≤ 1024) × Marked (seen .ordinals) marks (seen .len)
+    known-last = (k .3, omega (arith, k .4), k .7)
+
+    -- what the numbers say
+    pub known-gone : (v : ℕ) (tombstoned : Bool) → tombstoned ≡ member v (latest (seen .ordinals) 0 (tombstones - 0)) → tombstoned ≡ member v gone
+    known-gone v tombstoned h =
+        let whole : tombstones - 0 ≡ tombstones = omega arith in h ∙ ap (λ n. member v (latest (seen .ordinals) 0 n)) whole ∙ ap (member v) (k .5)
+
+    pub known-met :
+        (v : ℕ) (met : Bool) → met ≡ member v (latest (seen .ordinals) tombstones (seen .len - tombstones)) → met ≡ member v (values (before i))
+    known-met v met h = h ∙ ap (member v) (k .6)

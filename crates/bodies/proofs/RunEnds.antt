@@ -9,13 +9,13 @@ use native.Mathlib.Omega.{arith}
 use lib.Dec.{leb, ltb, eqb}
 use borrow.Author.Tests.{leb-true, leb-false, not-true, not-false, lt-ltb, le-ltb}
 use Rattle.rules.specs.declared.span.Span.{Span}
-use Rattle.rules.specs.Words.{within, front, rest}
+use Rattle.rules.specs.Words.{within, firstIs, front, rest}
 use Rattle.rules.specs.Kind
 use Rattle.rules.specs.Record.{Rec, recordBytes, kindIn}
 use Rattle.names.specs.View.{viewAt, viewFrom, viewOf}
 use Rattle.types.proofs.Views.{view-cons, view-none}
 use Rattle.bodies.specs.declared.runs.Run.{Run}
-use Rattle.bodies.specs.declared.runs.Run.the-variants.{Front, Annotations, FieldType, FieldItem, Item}
+use Rattle.bodies.specs.declared.runs.Run.the-variants.{Front, Annotations, Types, BitNames, FieldItem, Item}
 use Rattle.bodies.specs.Runs.{inRun, EndsAt, AllIn}
 
 -- a number that is not between two bounds is under the one or over the other
@@ -43,9 +43,13 @@ module _ (run : Run) (sheet : List ℕ) (i k : ℕ) (read : k ≡ kindIn (record
   unfolding viewAt
   in-annotations which = rw (which, read)
 
-  pub in-type : (type : Bool) → run ≡ FieldType → type ≡ Kind.isType k → (eqb k Kind.BitName || type) ≡ inRun run (viewAt sheet i)
+  pub in-types : (type : Bool) → run ≡ Types → type ≡ Kind.isType k → type ≡ inRun run (viewAt sheet i)
   unfolding viewAt
-  in-type type which h = rw (which, h, read)
+  in-types type which h = rw (which, h, read)
+
+  pub in-bit-names : run ≡ BitNames → eqb k Kind.BitName ≡ inRun run (viewAt sheet i)
+  unfolding viewAt
+  in-bit-names which = rw (which, read)
 
   pub in-field-item : run ≡ FieldItem → (ltb k Kind.Field || ltb Kind.Invariant k) ≡ inRun run (viewAt sheet i)
   unfolding viewAt
@@ -61,9 +65,25 @@ unfolding viewFrom
 view-last sheet zero a = let same : a + 0 ≡ a = omega arith in rw same
 view-last sheet (suc n) a = let same : a + suc n ≡ suc a + n = omega arith in rw same (ap (λ rs. viewAt sheet a ∷ rs) (view-last sheet n (suc a)))
 
-module _ (run : Run) (sheet : List ℕ) (a e : ℕ) where
-  abbrev p : Rec ℕ Span → Bool
-  p = inRun run
+-- the first of the others fails the test
+rest-first : {A : Type 0} (p : A → Bool) (xs : List A) → firstIs p (rest p xs) ≡ false
+unfolding rest
+rest-first p [] = refl
+rest-first p (x ∷ xs) = by (rest-first p xs) (p x) refl
+  where
+    by : firstIs p (rest p xs) ≡ false → (test : Bool) → p x ≡ test → firstIs p (rest p (x ∷ xs)) ≡ false
+    by later true h = rw (rest, h) later
+    by later false h = rw (rest, h) h
+
+module _ (p : Rec ℕ Span → Bool) (sheet : List ℕ) (a e : ℕ) where
+  -- what is known of the end of a run
+  abbrev pub RunTo : ℕ → Type 0
+  RunTo r = EndsAt p sheet a e r × (r ≤ e) × (a ≤ e → a ≤ r) × AllIn p sheet a r
+
+  -- the record where a run ends is not of it
+  pub ends-out : (r : ℕ) → EndsAt p sheet a e r → r < e → p (viewAt sheet r) ≡ false
+  unfolding EndsAt
+  ends-out r ends h = ap (firstIs p) (sym (view-cons sheet r e h) ∙ ends .1) ∙ rest-first p (viewOf sheet a e)
 
   -- the records from a up to i are of the run, and so what follows them is cut where all are
   pub record Passed (i : ℕ) : Type 0 where
@@ -71,7 +91,7 @@ module _ (run : Run) (sheet : List ℕ) (a e : ℕ) where
     pub most : i - a ≤ e - a
     pub before : front p (viewOf sheet a e) ≡ viewOf sheet a i ++ front p (viewOf sheet i e)
     pub after : rest p (viewOf sheet a e) ≡ rest p (viewOf sheet i e)
-    pub all : AllIn run sheet a i
+    pub all : AllIn p sheet a i
 
   pub none-passed : Passed a
   unfolding viewFrom AllIn
@@ -100,7 +120,7 @@ module _ (run : Run) (sheet : List ℕ) (a e : ℕ) where
         further of j l lt (yes same) = rw same of
         further of j l lt (no differ) = passed .all j l (omega arith)
 
-    pub passed-end : (here : Bool) → i < e → here ≡ p (viewAt sheet i) → not here ≡ true → EndsAt run sheet a e i × (i ≤ e) × (a ≤ e → a ≤ i) × AllIn run sheet a i
+    pub passed-end : (here : Bool) → i < e → here ≡ p (viewAt sheet i) → not here ≡ true → RunTo i
     unfolding EndsAt front rest
     passed-end here h read one =
         let cons = view-cons sheet i e h in
@@ -111,7 +131,7 @@ module _ (run : Run) (sheet : List ℕ) (a e : ℕ) where
           passed .all,
         )
 
-    pub passed-all : e ≤ i → EndsAt run sheet a e e × (e ≤ e) × (a ≤ e → a ≤ e) × AllIn run sheet a e
+    pub passed-all : e ≤ i → RunTo e
     unfolding EndsAt front rest AllIn
     passed-all h =
         let size : i - a ≡ e - a = omega arith in
@@ -124,3 +144,25 @@ module _ (run : Run) (sheet : List ℕ) (a e : ℕ) where
           λ le. le,
           λ j l lt. passed .all j l (omega arith),
         )
+
+  -- records further on that are of the run
+  passed-by : (i n : ℕ) → Passed i → i + n ≤ e → AllIn p sheet i (i + n) → Passed (i + n)
+  unfolding AllIn
+  passed-by i zero passed h all = let none : i + 0 ≡ i = omega arith in rw none passed
+  passed-by i (suc n) passed h all =
+      let more : i + suc n ≡ i + n + 1 = omega arith in
+      rw more
+      (passed-next (i + n) (passed-by i n passed (omega arith) (λ j l lt. all j l (omega arith))) true (omega arith)
+      (sym (all (i + n) (omega arith) (omega arith))) refl)
+
+  pub passed-to : (i j : ℕ) → Passed i → i ≤ j → j ≤ e → AllIn p sheet i j → Passed j
+  passed-to i j passed least most all =
+      let last : i + (j - i) ≡ j = omega arith in
+      rw last at (passed-by i (j - i) passed (omega arith) (rw (sym last) at all))
+
+  pub passed-out : (r : ℕ) → Passed r → r ≤ e → (r < e → p (viewAt sheet r) ≡ false) → RunTo r
+  passed-out r passed most out = by (ℕ-discrete r e)
+    where
+      by : Dec (r ≡ e) → RunTo r
+      by (yes same) = rw same (passed-all r passed (omega arith))
+      by (no differ) = let h : r < e = omega arith in passed-end r passed false h (sym (out h)) refl

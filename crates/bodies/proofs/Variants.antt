@@ -4,7 +4,7 @@ use native.Mathlib.Omega.{arith}
 use mathlib.Core.Path.{_≡_, refl, sym, ap, ap₂, _∙_}
 use mathlib.Core.Bool.{Bool, true, false, not, _&&_}
 use mathlib.Core.List.{List, [], _++_, append-nil, flatMap}
-use lib.ListN.{length, getD, set}
+use lib.ListN.{length, set}
 use borrow.Author.Tests.{eqb-true, not-true}
 use Rattle.rules.specs.declared.span.Span.{Span}
 use Rattle.rules.specs.Words.{onlyIf, anyOf, member, front, Item, items}
@@ -18,17 +18,17 @@ use Rattle.rules.proofs.Taken.{outside-is}
 use Rattle.names.specs.View.{viewAt, viewOf, contextBy}
 use Rattle.diagnostic.specs.Push.{State, pushFound}
 use Rattle.diagnostic.proofs.FoundPushes.{found-none, found-then}
-use Rattle.annotations.specs.Chains.{hasKey, Chained, Ready}
 use Rattle.annotations.proofs.FoundSteps.{found-step}
-use Rattle.bodies.specs.Earlier.{earlier}
-use Rattle.bodies.specs.Met.{ofKind, valueAt}
+use Rattle.bodies.specs.declared.seen.Seen.{Seen}
+use Rattle.bodies.specs.Seen.{latest, Marked}
+use Rattle.bodies.specs.Earlier.{valuesOf, earlier}
 use Rattle.bodies.specs.declared.runs.Run.the-variants as Run
-use Rattle.bodies.specs.Runs.{EndsAt, AllIn}
+use Rattle.bodies.specs.Runs.{inRun, EndsAt, AllIn}
 use Rattle.bodies.specs.Items.{variantFound}
 use Rattle.bodies.specs.Ordinal.{pushOrdinal, memberFound}
 use Rattle.bodies.proofs.BodyItems.{item-member}
 use Rattle.bodies.proofs.Ordinals.{union-members}
-use Rattle.bodies.proofs.Passing.{values, gone, before, Known, known-start, known-other, known-member, known-gone, known-met}
+use Rattle.bodies.proofs.Passing.{values, gone, before, Known, known-start, known-other, known-room, known-member, known-gone, known-met}
 use Rattle.bodies.proofs.Turns.{namesOf, kind-is, kind-not, left, itemAt, turn-member, turn-other, turn-inner, turn-none}
 use Rattle.bodies.proofs.Retired.{retired-items}
 use Rattle.bodies.proofs.FieldTurns.{member-tests}
@@ -62,11 +62,11 @@ module _
     variants i = before 14 15 sheet a e i
 
     -- before record i of the body
-    abbrev pub VariantsKnown : List ℕ → List ℕ → List ℕ → State → State → ℕ → Type 0
-    VariantsKnown tombstones ordinals links s₀ s i =
+    abbrev pub VariantsKnown : ℕ → Seen → List ℕ → State → State → ℕ → Type 0
+    VariantsKnown tombstones seen marks s₀ s i =
         (length (s .0) ≡ length (s₀ .0))
         × (i ≤ e)
-        × Known 14 15 sheet a e tombstones ordinals links i
+        × Known 14 15 sheet a e tombstones seen marks i
         × (pushFound (still i) s ≡ pushFound (listViolations ctx scheme own (bodyItems (viewOf sheet a e))) s₀)
 
     variants-start : still a ≡ listViolations ctx scheme own (bodyItems (viewOf sheet a e))
@@ -76,10 +76,19 @@ module _
         rw none (ap (λ xs. itemsViolations ctx scheme own xs [] [] (items startsItem (viewOf sheet a e))) (sym (retired-items (viewOf sheet a e))))
 
     pub variants-none :
-        (tombstones ordinals links links' : List ℕ) (s : State) → a ≤ e → Ready ordinals links a →
-        Chained (ofKind 15 sheet) (valueAt sheet) a tombstones links' e → VariantsKnown tombstones ordinals links' s s a
-    variants-none tombstones ordinals links links' s le r c =
-        (refl, le, known-start 14 15 sheet a e tombstones ordinals links links' r c, ap (λ fs. pushFound fs s) variants-start)
+        (tombstones : ℕ) (ordinals marks : List ℕ) (s : State) → a ≤ e → e ≤ 1024 →
+        (length ordinals ≡ 1024)
+        × (length marks ≡ 1021)
+        × (tombstones ≤ e - a)
+        × (latest ordinals 0 tombstones ≡ valuesOf 15 (viewOf sheet a e))
+        × Marked ordinals marks tombstones →
+        VariantsKnown tombstones (record { ordinals = ordinals; len = tombstones }) marks s s a
+    variants-none tombstones ordinals marks s le small c = (
+      refl,
+      le,
+      known-start 14 15 sheet a e ordinals marks tombstones (λ f. absurd (omega (arith, f))) small (c .0) (c .1) (c .3) (c .4),
+      ap (λ fs. pushFound fs s) variants-start,
+    )
 
     other-left : (i : ℕ) → a ≤ i → i < e → is Kind.Variant (at i) ≡ false → still i ≡ still (i + 1)
     other-left i le h t = go (startsItem (at i)) refl
@@ -91,33 +100,33 @@ module _
         go false st = turn-inner ctx scheme own startsItem 14 sheet a e tombs i le h st t
 
     variants-next :
-        (tombstones ordinals links : List ℕ) (s₀ s : State) (i : ℕ) → VariantsKnown tombstones ordinals links s₀ s i → i < e → is Kind.Variant (at i) ≡ false →
-        VariantsKnown tombstones ordinals links s₀ s (i + 1)
-    variants-next tombstones ordinals links s₀ s i known h test = (
+        (tombstones : ℕ) (seen : Seen) (marks : List ℕ) (s₀ s : State) (i : ℕ) → VariantsKnown tombstones seen marks s₀ s i → i < e → is Kind.Variant (at i) ≡ false →
+        VariantsKnown tombstones seen marks s₀ s (i + 1)
+    variants-next tombstones seen marks s₀ s i known h test = (
       known .0,
       omega arith,
-      known-other 14 15 sheet a e tombstones ordinals links i test (known .2),
-      ap (λ fs. pushFound fs s) (sym (other-left i (known .2 .0) h test)) ∙ known .3,
+      known-other 14 15 sheet a e tombstones seen marks i (known .2) h test,
+      ap (λ fs. pushFound fs s) (sym (other-left i (known .2 .2) h test)) ∙ known .3,
     )
 
     -- a record that is no variant
     pub variants-other :
-        (tombstones ordinals links : List ℕ) (s₀ s : State) (i k : ℕ) → VariantsKnown tombstones ordinals links s₀ s i → i < e →
-        k ≡ kindIn (recordBytes sheet i) → (k ≡ 14 → ⊥) → VariantsKnown tombstones ordinals links s₀ s (i + 1)
-    variants-other tombstones ordinals links s₀ s i k known h hk ne =
-        variants-next tombstones ordinals links s₀ s i known h (kind-not sheet i k 14 hk ne)
+        (tombstones : ℕ) (seen : Seen) (marks : List ℕ) (s₀ s : State) (i k : ℕ) → VariantsKnown tombstones seen marks s₀ s i → i < e →
+        k ≡ kindIn (recordBytes sheet i) → (k ≡ 14 → ⊥) → VariantsKnown tombstones seen marks s₀ s (i + 1)
+    variants-other tombstones seen marks s₀ s i k known h hk ne =
+        variants-next tombstones seen marks s₀ s i known h (kind-not sheet i k 14 hk ne)
 
     -- all records up to the next item
     pub variants-parts :
-        (tombstones ordinals links : List ℕ) (s₀ s : State) (i n : ℕ) → VariantsKnown tombstones ordinals links s₀ s i → i + n ≤ e →
-        AllIn Run.Item sheet i (i + n) → VariantsKnown tombstones ordinals links s₀ s (i + n)
+        (tombstones : ℕ) (seen : Seen) (marks : List ℕ) (s₀ s : State) (i n : ℕ) → VariantsKnown tombstones seen marks s₀ s i → i + n ≤ e →
+        AllIn (inRun Run.Item) sheet i (i + n) → VariantsKnown tombstones seen marks s₀ s (i + n)
     unfolding AllIn
-    variants-parts tombstones ordinals links s₀ s i zero known h all = let none : i + 0 ≡ i = omega arith in rw none known
-    variants-parts tombstones ordinals links s₀ s i (suc n) known h all =
+    variants-parts tombstones seen marks s₀ s i zero known h all = let none : i + 0 ≡ i = omega arith in rw none known
+    variants-parts tombstones seen marks s₀ s i (suc n) known h all =
         let more : i + suc n ≡ i + n + 1 = omega arith in
         rw more
-        (variants-next tombstones ordinals links s₀ s (i + n)
-        (variants-parts tombstones ordinals links s₀ s i n known (omega arith) (λ j l lt. all j l (omega arith))) (omega arith)
+        (variants-next tombstones seen marks s₀ s (i + n)
+        (variants-parts tombstones seen marks s₀ s i n known (omega arith) (λ j l lt. all j l (omega arith))) (omega arith)
         (outside-is Kind.Variant Kind.Tombstone Kind.Variant (at (i + n) .kind) refl
         (not-true (startsItem (at (i + n))) (all (i + n) (omega arith) (omega arith)))))
 
@@ -128,38 +137,44 @@ module _
 
     -- a variant
     pub variants-variant :
-        (tombstones ordinals links ordinals' links' : List ℕ) (s₀ s t : State) (i k ordinal : ℕ) (tombstoned met : Bool) →
-        VariantsKnown tombstones ordinals links s₀ s i → i < e → e ≤ 1024 → k ≡ kindIn (recordBytes sheet i) → k ≡ 14 →
-        ordinal ≡ valueIn (recordBytes sheet i) → tombstoned ≡ hasKey (ofKind 15 sheet) (valueAt sheet) a ordinal (e - a) →
-        (met ≡ hasKey (ofKind 14 sheet) (valueAt sheet) a ordinal (i - a))
-        × (ordinals' ≡ set ordinals (ordinal % 512) (i + 1))
-        × (links' ≡ set links i (getD ordinals (ordinal % 512) 0)) →
+        (tombstones : ℕ) (seen : Seen) (marks : List ℕ) (s₀ s t : State) (i k ordinal p : ℕ) (tombstoned met : Bool) →
+        VariantsKnown tombstones seen marks s₀ s i → i < e → k ≡ kindIn (recordBytes sheet i) → k ≡ 14 →
+        ordinal ≡ valueIn (recordBytes sheet i) → tombstoned ≡ member ordinal (latest (seen .ordinals) 0 (tombstones - 0)) →
+        met ≡ member ordinal (latest (seen .ordinals) tombstones (seen .len - tombstones)) → p ≡ ordinal % 1021 →
         length (t .0) ≡ length (s .0) →
         t ≡ pushFound (memberFound scheme tombstoned met false (at i) ++ own (itemAt ctx scheme own startsItem 14 sheet a e tombs i)) s →
-        VariantsKnown tombstones ordinals' links' s₀ t (i + 1)
+        VariantsKnown tombstones (record { ordinals = set (seen .ordinals) (seen .len) ordinal; len = seen .len + 1 }) (set marks p 1) s₀ t (i + 1)
     unfolding viewAt
-    variants-variant tombstones ordinals links ordinals' links' s₀ s t i k ordinal tombstoned met known h small hk eq ho ht hm size hs =
+    variants-variant tombstones seen marks s₀ s t i k ordinal p tombstoned met known h hk eq ho ht hm hp size hs =
         let test : is Kind.Variant (at i) ≡ true = kind-is sheet i k 14 hk eq in
         let again : Bool = anyOf (ctx .same (at i .name)) (namesOf (variants i)) in
         let dead : tombstoned ≡ member (valueIn (recordBytes sheet i)) tombs =
-        known-gone 14 15 sheet a e ordinal tombstoned ht ∙ ap (λ v. member v tombs) ho in (
+        known-gone 14 15 sheet a e tombstones seen marks i (known .2) ordinal tombstoned ht ∙ ap (λ v. member v tombs) ho in (
           size ∙ known .0,
           omega arith,
-          rw (hm .1, hm .2) (known-member 14 15 sheet a e tombstones ordinals links i ordinal (omega arith) (λ f. absurd (omega (arith, f))) test ho (known .2)),
+          rw hp (known-member 14 15 sheet a e tombstones seen marks i (known .2) ordinal h test ho),
           found-step _ _ _ s t _
-              (turn-member ctx scheme own startsItem 14 sheet a e tombs i (known .2 .0) h (variant-starts (at i) test) (variant-member (at i) test) test
+              (turn-member ctx scheme own startsItem 14 sheet a e tombs i (known .2 .2) h (variant-starts (at i) test) (variant-member (at i) test) test
               ∙ ap (λ fs. fs ++ own (itemAt ctx scheme own startsItem 14 sheet a e tombs i) ++ still (i + 1))
               (sym (names-free tombstoned met false again (at i)
               ∙ member-tests ctx scheme tombs (values (variants i)) (namesOf (variants i)) (at i) tombstoned met again dead
-              (ap₂ (λ g m. not g && m) dead (known-met 14 15 sheet a e i ordinal met (hm .0) ∙ ap (λ v. member v (values (variants i))) ho))
+              (ap₂ (λ g m. not g && m) dead
+              (known-met 14 15 sheet a e tombstones seen marks i (known .2) ordinal met hm ∙ ap (λ v. member v (values (variants i))) ho))
               refl)))
               hs (known .3),
         )
 
+    -- there is room for one variant more
+    pub variants-room :
+        (tombstones : ℕ) (seen : Seen) (marks : List ℕ) (s₀ s : State) (i k : ℕ) → VariantsKnown tombstones seen marks s₀ s i → i < e →
+        k ≡ kindIn (recordBytes sheet i) → k ≡ 14 → seen .len < 1024
+    variants-room tombstones seen marks s₀ s i k known h hk eq =
+        known-room 14 15 sheet a e tombstones seen marks i (known .2) h (kind-is sheet i k 14 hk eq)
+
     pub variants-end :
-        (tombstones ordinals links : List ℕ) (s₀ s : State) (i : ℕ) → VariantsKnown tombstones ordinals links s₀ s i → e ≤ i →
+        (tombstones : ℕ) (seen : Seen) (marks : List ℕ) (s₀ s : State) (i : ℕ) → VariantsKnown tombstones seen marks s₀ s i → e ≤ i →
         s ≡ pushFound (listViolations ctx scheme own (bodyItems (viewOf sheet a e))) s₀
-    variants-end tombstones ordinals links s₀ s i known h =
+    variants-end tombstones seen marks s₀ s i known h =
         sym (found-none s)
         ∙ ap (λ fs. pushFound fs s) (sym (turn-none ctx scheme own startsItem 14 sheet a e tombs i h))
         ∙ known .3
@@ -175,35 +190,42 @@ module _ (table sheet : List ℕ) (a e : ℕ) where
   abbrev enumNothing : (it : Item (Rec ℕ Span)) → is Kind.Variant (it .head) ≡ false → enumOwn it ≡ []
   enumNothing it h = refl
 
-  abbrev pub EnumKnown : List ℕ → List ℕ → List ℕ → State → State → ℕ → Type 0
+  abbrev pub EnumKnown : ℕ → Seen → List ℕ → State → State → ℕ → Type 0
   EnumKnown = VariantsKnown ctx enumScheme refl enumOwn enumNothing sheet a e
 
   pub enum-none :
-      (tombstones ordinals links links' : List ℕ) (s : State) → a ≤ e → Ready ordinals links a →
-      Chained (ofKind 15 sheet) (valueAt sheet) a tombstones links' e → EnumKnown tombstones ordinals links' s s a
+      (tombstones : ℕ) (ordinals marks : List ℕ) (s : State) → a ≤ e → e ≤ 1024 →
+      (length ordinals ≡ 1024)
+      × (length marks ≡ 1021)
+      × (tombstones ≤ e - a)
+      × (latest ordinals 0 tombstones ≡ valuesOf 15 (viewOf sheet a e))
+      × Marked ordinals marks tombstones →
+      EnumKnown tombstones (record { ordinals = ordinals; len = tombstones }) marks s s a
   enum-none = variants-none ctx enumScheme refl enumOwn enumNothing sheet a e
 
   pub enum-other :
-      (tombstones ordinals links : List ℕ) (s₀ s : State) (i k : ℕ) → EnumKnown tombstones ordinals links s₀ s i → i < e →
-      k ≡ kindIn (recordBytes sheet i) → (k ≡ 14 → ⊥) → EnumKnown tombstones ordinals links s₀ s (i + 1)
+      (tombstones : ℕ) (seen : Seen) (marks : List ℕ) (s₀ s : State) (i k : ℕ) → EnumKnown tombstones seen marks s₀ s i → i < e →
+      k ≡ kindIn (recordBytes sheet i) → (k ≡ 14 → ⊥) → EnumKnown tombstones seen marks s₀ s (i + 1)
   enum-other = variants-other ctx enumScheme refl enumOwn enumNothing sheet a e
 
+  pub enum-room :
+      (tombstones : ℕ) (seen : Seen) (marks : List ℕ) (s₀ s : State) (i k : ℕ) → EnumKnown tombstones seen marks s₀ s i → i < e →
+      k ≡ kindIn (recordBytes sheet i) → k ≡ 14 → seen .len < 1024
+  enum-room = variants-room ctx enumScheme refl enumOwn enumNothing sheet a e
+
   pub enum-variant :
-      (tombstones ordinals links ordinals' links' : List ℕ) (s₀ s t : State) (i k ordinal : ℕ) (tombstoned met : Bool) →
-      EnumKnown tombstones ordinals links s₀ s i → i < e → e ≤ 1024 → k ≡ kindIn (recordBytes sheet i) → k ≡ 14 →
-      ordinal ≡ valueIn (recordBytes sheet i) → tombstoned ≡ hasKey (ofKind 15 sheet) (valueAt sheet) a ordinal (e - a) →
-      (met ≡ hasKey (ofKind 14 sheet) (valueAt sheet) a ordinal (i - a))
-      × (ordinals' ≡ set ordinals (ordinal % 512) (i + 1))
-      × (links' ≡ set links i (getD ordinals (ordinal % 512) 0)) →
+      (tombstones : ℕ) (seen : Seen) (marks : List ℕ) (s₀ s t : State) (i k ordinal p : ℕ) (tombstoned met : Bool) →
+      EnumKnown tombstones seen marks s₀ s i → i < e → k ≡ kindIn (recordBytes sheet i) → k ≡ 14 →
+      ordinal ≡ valueIn (recordBytes sheet i) → tombstoned ≡ member ordinal (latest (seen .ordinals) 0 (tombstones - 0)) →
+      met ≡ member ordinal (latest (seen .ordinals) tombstones (seen .len - tombstones)) → p ≡ ordinal % 1021 →
       length (t .0) ≡ length (s .0) → t ≡ pushFound (memberFound enumScheme tombstoned met false (viewAt sheet i)) s →
-      EnumKnown tombstones ordinals' links' s₀ t (i + 1)
-  enum-variant tombstones ordinals links ordinals' links' s₀ s t i k ordinal tombstoned met known h small hk eq ho ht hm size hs =
-      variants-variant ctx enumScheme refl enumOwn enumNothing sheet a e tombstones ordinals links ordinals' links' s₀ s t i k ordinal tombstoned met known h small hk eq
-      ho ht hm size
+      EnumKnown tombstones (record { ordinals = set (seen .ordinals) (seen .len) ordinal; len = seen .len + 1 }) (set marks p 1) s₀ t (i + 1)
+  enum-variant tombstones seen marks s₀ s t i k ordinal p tombstoned met known h hk eq ho ht hm hp size hs =
+      variants-variant ctx enumScheme refl enumOwn enumNothing sheet a e tombstones seen marks s₀ s t i k ordinal p tombstoned met known h hk eq ho ht hm hp size
       (hs ∙ ap (λ fs. pushFound fs s) (sym (append-nil (memberFound enumScheme tombstoned met false (viewAt sheet i)))))
 
   pub enum-end :
-      (tombstones ordinals links : List ℕ) (s₀ s : State) (i : ℕ) → EnumKnown tombstones ordinals links s₀ s i → e ≤ i →
+      (tombstones : ℕ) (seen : Seen) (marks : List ℕ) (s₀ s : State) (i : ℕ) → EnumKnown tombstones seen marks s₀ s i → e ≤ i →
       s ≡ pushFound (listViolations ctx enumScheme (λ it. []) (bodyItems (viewOf sheet a e))) s₀
   enum-end = variants-end ctx enumScheme refl enumOwn enumNothing sheet a e
 
@@ -214,17 +236,22 @@ module _ (table sheet : List ℕ) (a e : ℕ) where
   pub unionNothing : (it : Item (Rec ℕ Span)) → is Kind.Variant (it .head) ≡ false → unionOwn it ≡ []
   unionNothing it h = ap (λ b. onlyIf b (fieldListViolations ctx (it .rest))) h
 
-  abbrev pub UnionKnown : List ℕ → List ℕ → List ℕ → State → State → ℕ → Type 0
+  abbrev pub UnionKnown : ℕ → Seen → List ℕ → State → State → ℕ → Type 0
   UnionKnown = VariantsKnown ctx unionScheme refl unionOwn unionNothing sheet a e
 
   pub union-none :
-      (tombstones ordinals links links' : List ℕ) (s : State) → a ≤ e → Ready ordinals links a →
-      Chained (ofKind 15 sheet) (valueAt sheet) a tombstones links' e → UnionKnown tombstones ordinals links' s s a
+      (tombstones : ℕ) (ordinals marks : List ℕ) (s : State) → a ≤ e → e ≤ 1024 →
+      (length ordinals ≡ 1024)
+      × (length marks ≡ 1021)
+      × (tombstones ≤ e - a)
+      × (latest ordinals 0 tombstones ≡ valuesOf 15 (viewOf sheet a e))
+      × Marked ordinals marks tombstones →
+      UnionKnown tombstones (record { ordinals = ordinals; len = tombstones }) marks s s a
   union-none = variants-none ctx unionScheme refl unionOwn unionNothing sheet a e
 
   pub union-other :
-      (tombstones ordinals links : List ℕ) (s₀ s : State) (i k : ℕ) → UnionKnown tombstones ordinals links s₀ s i → i < e →
-      k ≡ kindIn (recordBytes sheet i) → (k ≡ 14 → ⊥) → UnionKnown tombstones ordinals links s₀ s (i + 1)
+      (tombstones : ℕ) (seen : Seen) (marks : List ℕ) (s₀ s : State) (i k : ℕ) → UnionKnown tombstones seen marks s₀ s i → i < e →
+      k ≡ kindIn (recordBytes sheet i) → (k ≡ 14 → ⊥) → UnionKnown tombstones seen marks s₀ s (i + 1)
   union-other = variants-other ctx unionScheme refl unionOwn unionNothing sheet a e
 
   -- the ordinal, and then the fields
@@ -235,24 +262,27 @@ module _ (table sheet : List ℕ) (a e : ℕ) where
   unfolding variantFound
   variant-found i end tombstoned met s t u ht hu = found-then _ _ s t u (union-members sheet i tombstoned met s t ht) hu
 
+  pub union-room :
+      (tombstones : ℕ) (seen : Seen) (marks : List ℕ) (s₀ s : State) (i k : ℕ) → UnionKnown tombstones seen marks s₀ s i → i < e →
+      k ≡ kindIn (recordBytes sheet i) → k ≡ 14 → seen .len < 1024
+  union-room = variants-room ctx unionScheme refl unionOwn unionNothing sheet a e
+
   pub union-variant :
-      (tombstones ordinals links ordinals' links' : List ℕ) (s₀ s t : State) (i k ordinal end : ℕ) (tombstoned met : Bool) →
-      UnionKnown tombstones ordinals links s₀ s i → i < e → e ≤ 1024 → k ≡ kindIn (recordBytes sheet i) → k ≡ 14 →
-      ordinal ≡ valueIn (recordBytes sheet i) → tombstoned ≡ hasKey (ofKind 15 sheet) (valueAt sheet) a ordinal (e - a) →
-      (met ≡ hasKey (ofKind 14 sheet) (valueAt sheet) a ordinal (i - a))
-      × (ordinals' ≡ set ordinals (ordinal % 512) (i + 1))
-      × (links' ≡ set links i (getD ordinals (ordinal % 512) 0)) →
-      EndsAt Run.Item sheet (i + 1) e end × (end ≤ e) × (i + 1 ≤ e → i + 1 ≤ end) × AllIn Run.Item sheet (i + 1) end →
+      (tombstones : ℕ) (seen : Seen) (marks : List ℕ) (s₀ s t : State) (i k ordinal p end : ℕ) (tombstoned met : Bool) →
+      UnionKnown tombstones seen marks s₀ s i → i < e → k ≡ kindIn (recordBytes sheet i) → k ≡ 14 →
+      ordinal ≡ valueIn (recordBytes sheet i) → tombstoned ≡ member ordinal (latest (seen .ordinals) 0 (tombstones - 0)) →
+      met ≡ member ordinal (latest (seen .ordinals) tombstones (seen .len - tombstones)) → p ≡ ordinal % 1021 →
+      EndsAt (inRun Run.Item) sheet (i + 1) e end × (end ≤ e) × (i + 1 ≤ e → i + 1 ≤ end) × AllIn (inRun Run.Item) sheet (i + 1) end →
       length (t .0) ≡ length (s .0) → t ≡ pushFound (variantFound table sheet i end tombstoned met) s →
-      UnionKnown tombstones ordinals' links' s₀ t end
+      UnionKnown tombstones (record { ordinals = set (seen .ordinals) (seen .len) ordinal; len = seen .len + 1 }) (set marks p 1) s₀ t end
   unfolding variantFound EndsAt
-  union-variant tombstones ordinals links ordinals' links' s₀ s t i k ordinal end tombstoned met known h small hk eq ho ht hm ends size hs =
+  union-variant tombstones seen marks s₀ s t i k ordinal p end tombstoned met known h hk eq ho ht hm hp ends size hs =
       let behind : i + 1 ≤ end = ends .2 (omega arith) in
       let last : i + 1 + (end - (i + 1)) ≡ end = omega arith in
       rw last at
-      (variants-parts ctx unionScheme refl unionOwn unionNothing sheet a e tombstones ordinals' links' s₀ t (i + 1) (end - (i + 1))
-      (variants-variant ctx unionScheme refl unionOwn unionNothing sheet a e tombstones ordinals links ordinals' links' s₀ s t i k ordinal tombstoned met known h small
-      hk eq ho ht hm size
+      (variants-parts ctx unionScheme refl unionOwn unionNothing sheet a e tombstones
+      (record { ordinals = set (seen .ordinals) (seen .len) ordinal; len = seen .len + 1 }) (set marks p 1) s₀ t (i + 1) (end - (i + 1))
+      (variants-variant ctx unionScheme refl unionOwn unionNothing sheet a e tombstones seen marks s₀ s t i k ordinal p tombstoned met known h hk eq ho ht hm hp size
       (hs
       ∙ ap (λ rs. pushFound (memberFound unionScheme tombstoned met false (viewAt sheet i) ++ fieldListViolations ctx rs) s) (ends .0 .0)
       ∙ ap (λ b. pushFound (memberFound unionScheme tombstoned met false (viewAt sheet i)
@@ -261,7 +291,7 @@ module _ (table sheet : List ℕ) (a e : ℕ) where
       (omega (arith, ends .1)) (rw (sym last) at (ends .3)))
 
   pub union-end :
-      (tombstones ordinals links : List ℕ) (s₀ s : State) (i : ℕ) → UnionKnown tombstones ordinals links s₀ s i → e ≤ i →
+      (tombstones : ℕ) (seen : Seen) (marks : List ℕ) (s₀ s : State) (i : ℕ) → UnionKnown tombstones seen marks s₀ s i → e ≤ i →
       s ≡ pushFound (unionViolations ctx (viewOf sheet a e)) s₀
   unfolding unionViolations
   union-end = variants-end ctx unionScheme refl unionOwn unionNothing sheet a e

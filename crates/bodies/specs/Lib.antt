@@ -5,3 +5,4 @@ pub mod Items
 pub mod Met
 pub mod Ordinal
 pub mod Runs
+pub mod Seen

@@ -12,11 +12,12 @@ ghost use Rattle.names.specs.View.{viewAt, viewOf, contextBy};
 ghost use Rattle.diagnostic.specs.Push.{pushFound};
 ghost use Rattle.bodies.specs.Ordinal.{memberFound};
 ghost use Rattle.bodies.specs.Backing.{narrowFound, backingsFrom};
-use crate::met::chain_ordinals;
-use crate::met::has_ordinal;
-use crate::met::meet_ordinal;
 use crate::ordinal::OrdinalRules;
 use crate::ordinal::check_ordinal;
+use crate::seen::Seen;
+use crate::seen::collect;
+use crate::seen::is_met;
+use crate::seen::mark;
 use rules::Counts;
 use rules::Sheet;
 use rules::Violation;
@@ -56,10 +57,20 @@ fn check_variants(
     requires { ⌜ (a ≤ e) × (e ≤ 1024) ⌝ }
     ensures { λ r. ⌜ _≡_ {A = List ℕ × Counts} (now (list .exit), r) (pushFound (listViolations (contextBy (now (table .entry)) (now (sheet .entry))) enumScheme (λ it. []) (bodyItems (viewOf (now (sheet .entry)) a e))) (now (list .entry), counts)) ⌝ }
 {
-    let mut tombstones: [u16; 512] = [0; 512];
-    let mut ordinals: [u16; 512] = [0; 512];
-    let mut links: [u16; 1024] = [0; 1024];
-    chain_ordinals(sheet, &mut tombstones, &mut links, kinds::TOMBSTONE, a, e);
+    let mut seen = Seen {
+        ordinals: [0; 1024],
+        len: 0,
+    };
+    let mut marks: [u8; 1021] = [0; 1021];
+    let tombstones = collect(
+        sheet,
+        &mut seen.ordinals,
+        &mut marks,
+        kinds::TOMBSTONE,
+        a,
+        e,
+    );
+    seen.len = tombstones;
     let mut counts = counts;
     let mut i = a;
     while i < e {
@@ -68,16 +79,12 @@ fn check_variants(
             continue;
         }
         let ordinal = sheet::value(sheet, i);
-        let tombstoned = has_ordinal(sheet, &tombstones, &links, kinds::TOMBSTONE, a, e, ordinal);
-        let met = meet_ordinal(
-            sheet,
-            &mut ordinals,
-            &mut links,
-            kinds::VARIANT,
-            a,
-            i,
-            ordinal,
-        );
+        let at = seen.len;
+        let tombstoned = is_met(&seen.ordinals, &marks, 0, tombstones, ordinal);
+        let met = is_met(&seen.ordinals, &marks, tombstones, at, ordinal);
+        seen.ordinals[at] = ordinal;
+        seen.len = at + 1;
+        marks[mark(ordinal)] = 1;
         counts = check_variant(sheet, list, counts, i, ordinal, tombstoned, met);
         i += 1;
     }

@@ -1,15 +1,18 @@
 // A field by itself: rules 6 to 30.
 ghost use mathlib.Core.Path.{_≡_};
 ghost use mathlib.Core.List.{List};
-ghost use Prim.Native.Nat.{ℕ};
+ghost use Prim.Native.Nat.{ℕ, _≤_};
 ghost use Rattle.rules.specs.declared.answer.Counts.{Counts};
 ghost use Rattle.rules.specs.Annotations.{annotationsViolations};
 ghost use Rattle.rules.specs.Conditions.{conditionViolations};
 ghost use Rattle.rules.specs.Bodies.{fieldViolations};
 ghost use Rattle.names.specs.View.{viewOf, contextBy};
 ghost use Rattle.diagnostic.specs.Push.{pushFound};
+ghost use Rattle.bodies.specs.declared.runs.Run.the-variants.{FieldItem};
+ghost use Rattle.bodies.specs.Runs.{inRun, EndsAt, AllIn, PartsAt};
 use crate::runs::Run;
 use crate::runs::run_end;
+use crate::runs::type_end;
 use rules::Counts;
 
 // Adds what is wrong with the annotations at records `a` up to `ta` of a field whose type stands at records `ta` up to `te`, if there are any.
@@ -48,20 +51,43 @@ fn check_condition(
     conditions::validate_where_expr(sheet, table, list, counts, te, e, ta, te)
 }
 
-// Adds what is wrong with the type, the annotations and the condition of a field whose parts stand at records `a` up to `e`.
+// Where the parts of a field stand: its annotations end where its type starts, and its type where its condition starts.
+pub struct Parts {
+    pub type_start: usize,
+    pub type_end: usize,
+    pub end: usize,
+}
+
+// The parts of the field whose first stands at record `a`, if there is one, before record `e`.
+pub fn field_parts(sheet: &[u8], a: usize, e: usize) -> Parts
+    requires { ⌜ a ≤ e ⌝ }
+    ensures { λ r. ⌜ (EndsAt (inRun FieldItem) (now (sheet .entry)) a e (r .end) × (r .end ≤ e) × (a ≤ e → a ≤ r .end) × AllIn (inRun FieldItem) (now (sheet .entry)) a (r .end)) × PartsAt (now (sheet .entry)) a r ⌝ }
+{
+    let type_start = run_end(sheet, Run::Annotations, a, e);
+    let type_end = type_end(sheet, type_start, e);
+    let end = run_end(sheet, Run::FieldItem, type_end, e);
+    Parts {
+        type_start,
+        type_end,
+        end,
+    }
+}
+
+// Adds what is wrong with the type, the annotations and the condition of a field whose parts stand from record `a` on.
 pub fn check_field(
     sheet: &[u8],
     table: &[u16; 5122],
     list: &mut [u8],
     counts: Counts,
     a: usize,
-    e: usize,
+    parts: Parts,
 ) -> Counts
-    ensures { λ r. ⌜ _≡_ {A = List ℕ × Counts} (now (list .exit), r) (pushFound (fieldViolations (contextBy (now (table .entry)) (now (sheet .entry))) (viewOf (now (sheet .entry)) a e)) (now (list .entry), counts)) ⌝ }
+    requires { ⌜ PartsAt (now sheet) a parts ⌝ }
+    ensures { λ r. ⌜ _≡_ {A = List ℕ × Counts} (now (list .exit), r) (pushFound (fieldViolations (contextBy (now (table .entry)) (now (sheet .entry))) (viewOf (now (sheet .entry)) a (parts .end))) (now (list .entry), counts)) ⌝ }
 {
-    let ta = run_end(sheet, Run::Annotations, a, e);
-    let te = run_end(sheet, Run::FieldType, ta, e);
+    let ta = parts.type_start;
+    let te = parts.type_end;
     let counts = types::check_field_type(sheet, table, list, counts, ta, te);
     let counts = check_annotations(sheet, table, list, counts, a, ta, te);
-    check_condition(sheet, table, list, counts, ta, te, e)
+    check_condition(sheet, table, list, counts, ta, te, parts.end)
 }

@@ -9,6 +9,7 @@ mod met;
 mod newtype;
 mod ordinal;
 mod runs;
+mod seen;
 mod unions;
 
 pub use declaration::check_declaration;

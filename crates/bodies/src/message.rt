@@ -1,7 +1,7 @@
 // A field list: rules 1 to 30.
 ghost use mathlib.Core.Path.{_≡_};
 ghost use mathlib.Core.List.{List};
-ghost use Prim.Native.Nat.{ℕ, _<_, _≤_};
+ghost use Prim.Native.Nat.{ℕ, _+_, _<_, _≤_};
 ghost use Rattle.rules.specs.declared.answer.Counts.{Counts};
 ghost use Rattle.rules.specs.Kind;
 ghost use Rattle.rules.specs.Record.{is, valueIn, recordBytes};
@@ -12,16 +12,19 @@ ghost use Rattle.diagnostic.specs.Push.{pushFound};
 ghost use Rattle.annotations.specs.Chains.{Ready};
 ghost use Rattle.bodies.specs.Ordinal.{memberFound};
 ghost use Rattle.bodies.specs.Items.{fieldFound};
+ghost use Rattle.bodies.specs.declared.runs.Run.the-variants.{FieldItem};
+ghost use Rattle.bodies.specs.Runs.{inRun, EndsAt, AllIn, PartsAt};
 use crate::errors::error_if;
+use crate::field::Parts;
 use crate::field::check_field;
-use crate::met::chain_ordinals;
-use crate::met::has_ordinal;
+use crate::field::field_parts;
 use crate::met::meet_name;
-use crate::met::meet_ordinal;
 use crate::ordinal::OrdinalRules;
 use crate::ordinal::check_ordinal;
-use crate::runs::Run;
-use crate::runs::run_end;
+use crate::seen::Seen;
+use crate::seen::collect;
+use crate::seen::is_met;
+use crate::seen::mark;
 use rules::Counts;
 use rules::Sheet;
 use rules::Violation;
@@ -71,45 +74,93 @@ fn check_ordinal_and_name(
     )
 }
 
-// Adds what is wrong with the field at record `i`, whose parts end at record `end`.
+// Adds what is wrong with the field at record `i`, whose parts stand there.
 fn check_field_item(
     sheet: &[u8],
     table: &[u16; 5122],
     list: &mut [u8],
     counts: Counts,
     i: usize,
-    end: usize,
+    parts: Parts,
     ordinal: u64,
     tombstoned: bool,
     met: bool,
     renamed: bool,
 ) -> Counts
-    requires { ⌜ (i < end) × (ordinal ≡ valueIn (recordBytes (now sheet) i)) ⌝ }
-    ensures { λ r. ⌜ _≡_ {A = List ℕ × Counts} (now (list .exit), r) (pushFound (fieldFound (now (table .entry)) (now (sheet .entry)) i end tombstoned met renamed) (now (list .entry), counts)) ⌝ }
+    requires { ⌜ (i < parts .end) × PartsAt (now sheet) (i + 1) parts × (ordinal ≡ valueIn (recordBytes (now sheet) i)) ⌝ }
+    ensures { λ r. ⌜ _≡_ {A = List ℕ × Counts} (now (list .exit), r) (pushFound (fieldFound (now (table .entry)) (now (sheet .entry)) i (parts .end) tombstoned met renamed) (now (list .entry), counts)) ⌝ }
 {
     let counts = check_ordinal_and_name(sheet, list, counts, i, ordinal, tombstoned, met, renamed);
-    check_field(sheet, table, list, counts, i + 1, end)
+    check_field(sheet, table, list, counts, i + 1, parts)
 }
 
-// Adds what is wrong with the field list at records `a` up to `e`. The chains are lent: those of the tombstones and of the fields by their ordinals, which
-// share the links, and those of the fields by their names.
+// The counts after a field, and where its parts end.
+pub struct Passed {
+    pub counts: Counts,
+    pub end: usize,
+}
+
+// Adds what is wrong with the field at record `i` of a list that ends at record `e`.
+pub fn check_field_at(
+    sheet: &[u8],
+    table: &[u16; 5122],
+    list: &mut [u8],
+    counts: Counts,
+    i: usize,
+    e: usize,
+    ordinal: u64,
+    tombstoned: bool,
+    met: bool,
+    renamed: bool,
+) -> Passed
+    requires { ⌜ (i < e) × (ordinal ≡ valueIn (recordBytes (now sheet) i)) ⌝ }
+    ensures { λ r. ⌜ _≡_ {A = List ℕ × Counts} (now (list .exit), r .counts) (pushFound (fieldFound (now (table .entry)) (now (sheet .entry)) i (r .end) tombstoned met renamed) (now (list .entry), counts)) × (EndsAt (inRun FieldItem) (now (sheet .entry)) (i + 1) e (r .end) × (r .end ≤ e) × (i + 1 ≤ e → i + 1 ≤ r .end) × AllIn (inRun FieldItem) (now (sheet .entry)) (i + 1) (r .end)) ⌝ }
+{
+    let parts = field_parts(sheet, i + 1, e);
+    let counts = check_field_item(
+        sheet,
+        table,
+        list,
+        counts,
+        i,
+        parts,
+        ordinal,
+        tombstoned,
+        met,
+        renamed,
+    );
+    let end = parts.end;
+    Passed { counts, end }
+}
+
+// Adds what is wrong with the field list at records `a` up to `e`, by the chains of names lent for it.
 pub fn check_message_body(
     sheet: &[u8],
     table: &[u16; 5122],
     list: &mut [u8],
     counts: Counts,
-    tombstones: &mut [u16; 512],
-    ordinals: &mut [u16; 512],
-    links: &mut [u16; 1024],
     names: &mut [u16; 512],
     name_links: &mut [u16; 1024],
     a: usize,
     e: usize,
 ) -> Counts
-    requires { ⌜ (a ≤ e) × (e ≤ 1024) × Ready (now tombstones) (now links) a × Ready (now ordinals) (now links) a × Ready (now names) (now «name_links») a ⌝ }
-    ensures { λ r. ⌜ _≡_ {A = List ℕ × Counts} (now (list .exit), r) (pushFound (fieldListViolations (contextBy (now (table .entry)) (now (sheet .entry))) (viewOf (now (sheet .entry)) a e)) (now (list .entry), counts)) × Ready (now (tombstones .exit)) (now (links .exit)) e × Ready (now (ordinals .exit)) (now (links .exit)) e × Ready (now (names .exit)) (now («name_links» .exit)) e ⌝ }
+    requires { ⌜ (a ≤ e) × (e ≤ 1024) × Ready (now names) (now «name_links») a ⌝ }
+    ensures { λ r. ⌜ _≡_ {A = List ℕ × Counts} (now (list .exit), r) (pushFound (fieldListViolations (contextBy (now (table .entry)) (now (sheet .entry))) (viewOf (now (sheet .entry)) a e)) (now (list .entry), counts)) × Ready (now (names .exit)) (now («name_links» .exit)) e ⌝ }
 {
-    chain_ordinals(sheet, tombstones, links, kinds::FIELD_TOMBSTONE, a, e);
+    let mut seen = Seen {
+        ordinals: [0; 1024],
+        len: 0,
+    };
+    let mut marks: [u8; 1021] = [0; 1021];
+    let tombstones = collect(
+        sheet,
+        &mut seen.ordinals,
+        &mut marks,
+        kinds::FIELD_TOMBSTONE,
+        a,
+        e,
+    );
+    seen.len = tombstones;
     let mut counts = counts;
     let mut i = a;
     while i < e {
@@ -119,31 +170,27 @@ pub fn check_message_body(
             continue;
         }
         let ordinal = sheet::value(sheet, i);
-        let tombstoned = has_ordinal(
-            sheet,
-            tombstones,
-            links,
-            kinds::FIELD_TOMBSTONE,
-            a,
-            e,
-            ordinal,
-        );
-        let met = meet_ordinal(sheet, ordinals, links, kinds::FIELD, a, i, ordinal);
+        let at = seen.len;
+        let tombstoned = is_met(&seen.ordinals, &marks, 0, tombstones, ordinal);
+        let met = is_met(&seen.ordinals, &marks, tombstones, at, ordinal);
+        seen.ordinals[at] = ordinal;
+        seen.len = at + 1;
+        marks[mark(ordinal)] = 1;
         let renamed = meet_name(sheet, table, names, name_links, kinds::FIELD, a, i);
-        let end = run_end(sheet, Run::FieldItem, i + 1, e);
-        counts = check_field_item(
+        let passed = check_field_at(
             sheet,
             table,
             list,
             counts,
             i,
-            end,
+            e,
             ordinal,
             tombstoned,
             met,
             renamed,
         );
-        i = end;
+        counts = passed.counts;
+        i = passed.end;
     }
     counts
 }
@@ -160,9 +207,6 @@ pub fn check_message(
     requires { ⌜ (a ≤ e) × (e ≤ 1024) ⌝ }
     ensures { λ r. ⌜ _≡_ {A = List ℕ × Counts} (now (list .exit), r) (pushFound (fieldListViolations (contextBy (now (table .entry)) (now (sheet .entry))) (viewOf (now (sheet .entry)) a e)) (now (list .entry), counts)) ⌝ }
 {
-    let mut tombstones: [u16; 512] = [0; 512];
-    let mut ordinals: [u16; 512] = [0; 512];
-    let mut links: [u16; 1024] = [0; 1024];
     let mut names: [u16; 512] = [0; 512];
     let mut name_links: [u16; 1024] = [0; 1024];
     check_message_body(
@@ -170,9 +214,6 @@ pub fn check_message(
         table,
         list,
         counts,
-        &mut tombstones,
-        &mut ordinals,
-        &mut links,
         &mut names,
         &mut name_links,
         a,

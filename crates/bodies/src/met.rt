@@ -1,11 +1,11 @@
-// The ordinals and the names already met, by chains of the records that have them.
+// The names already met, by chains of the records that have them.
 ghost use mathlib.Core.Path.{_≡_};
 ghost use mathlib.Core.Bool.{true};
 ghost use Prim.Native.Nat.{_+_, _-_, _%_, _≤_, _<_};
 ghost use lib.ListN.{length, getD, set};
 ghost use Rattle.names.specs.View.{entryOf, idPart};
-ghost use Rattle.annotations.specs.Chains.{hasKey, Chained, Ready};
-ghost use Rattle.bodies.specs.Met.{ofKind, valueAt};
+ghost use Rattle.annotations.specs.Chains.{hasKey, Chained};
+ghost use Rattle.bodies.specs.Met.{ofKind};
 
 // The bucket of a number.
 fn bucket(number: u64) -> usize
@@ -29,30 +29,6 @@ fn short(place: usize) -> u16
     place as u16
 }
 
-// Whether a record of that kind from record `a` up to record `i` has that ordinal.
-pub fn has_ordinal(
-    sheet: &[u8],
-    heads: &[u16; 512],
-    links: &[u16; 1024],
-    kind: u8,
-    a: usize,
-    i: usize,
-    ordinal: u64,
-) -> bool
-    requires { ⌜ Chained (ofKind kind (now sheet)) (valueAt (now sheet)) a (now heads) (now links) i × (i ≤ 1024) ⌝ }
-    ensures { λ r. ⌜ r ≡ hasKey (ofKind kind (now (sheet .entry))) (valueAt (now (sheet .entry))) a ordinal (i - a) ⌝ }
-{
-    let mut behind = wide(heads[bucket(ordinal)]);
-    while a < behind {
-        let p = behind - 1;
-        if sheet::value(sheet, p) == ordinal {
-            return true;
-        }
-        behind = wide(links[p]);
-    }
-    false
-}
-
 // Puts record `i` first into the chain of its number's bucket.
 fn add(heads: &mut [u16; 512], links: &mut [u16; 1024], i: usize, number: u64)
     requires { ⌜ (length (now heads) ≡ 512) × (length (now links) ≡ 1024) × (i < 1024) ⌝ }
@@ -61,24 +37,6 @@ fn add(heads: &mut [u16; 512], links: &mut [u16; 1024], i: usize, number: u64)
     let b = bucket(number);
     links[i] = heads[b];
     heads[b] = short(i + 1);
-}
-
-// Whether a record of that kind from record `a` up to record `i` has the ordinal of record `i`, which is then in the chains.
-pub fn meet_ordinal(
-    sheet: &[u8],
-    heads: &mut [u16; 512],
-    links: &mut [u16; 1024],
-    kind: u8,
-    a: usize,
-    i: usize,
-    ordinal: u64,
-) -> bool
-    requires { ⌜ Chained (ofKind kind (now sheet)) (valueAt (now sheet)) a (now heads) (now links) i × (i < 1024) ⌝ }
-    ensures { λ r. ⌜ (r ≡ hasKey (ofKind kind (now (sheet .entry))) (valueAt (now (sheet .entry))) a ordinal (i - a)) × (now (heads .exit) ≡ set (now (heads .entry)) (ordinal % 512) (i + 1)) × (now (links .exit) ≡ set (now (links .entry)) i (getD (now (heads .entry)) (ordinal % 512) 0)) ⌝ }
-{
-    let met = has_ordinal(sheet, heads, links, kind, a, i, ordinal);
-    add(heads, links, i, ordinal);
-    met
 }
 
 // Whether a record of that kind from record `a` up to record `i` has the name of that number.
@@ -123,27 +81,4 @@ pub fn meet_name(
     let met = has_name(sheet, table, heads, links, kind, a, i, id);
     add(heads, links, i, id as u64);
     met
-}
-
-// Puts the records of that kind from record `a` up to record `e` into the chains of their ordinals.
-pub fn chain_ordinals(
-    sheet: &[u8],
-    heads: &mut [u16; 512],
-    links: &mut [u16; 1024],
-    kind: u8,
-    a: usize,
-    e: usize,
-)
-    requires { ⌜ Ready (now heads) (now links) a × (a ≤ e) × (e ≤ 1024) ⌝ }
-    ensures { λ r. ⌜ Chained (ofKind kind (now (sheet .entry))) (valueAt (now (sheet .entry))) a (now (heads .exit)) (now (links .exit)) e ⌝ }
-{
-    let mut i = a;
-    while i < e {
-        if sheet::kind(sheet, i) != kind {
-            i += 1;
-            continue;
-        }
-        add(heads, links, i, sheet::value(sheet, i));
-        i += 1;
-    }
 }

@@ -1,4 +1,4 @@
--- The three parts are found where the runs end, and each adds what is wrong with it.
+-- Each of the three parts adds what is wrong with it.
 use borrow.Author.Needs.{needs}
 use Rattle.bodies.proofs.FieldParts.{field-found}
 use Rattle.bodies.proofs.field.check_field.Statement.{statement}
@@ -8,8 +8,6 @@ pub check-field-spec : {M : Type 1} → statement M
 check-field-spec =
     tie.close
     (tie.spec
-    (λ c κs. search needs)
-    (λ c κs. search needs)
     (λ c κs. search needs)
     (λ c κs. search needs)
     (λ c κs. search needs)

@@ -1,12 +1,13 @@
 -- The records passed so far are all of the run.
 use Prim.Native.Nat.{_-_}
 use borrow.Author.Needs.{needs}
+use Rattle.bodies.specs.Runs.{inRun}
 use Rattle.bodies.proofs.RunEnds.{Passed, none-passed, passed-next, passed-end, passed-all}
 use Rattle.bodies.proofs.runs.run_end.Statement.{statement}
 use Rattle.bodies.proofs.runs.run_end.Tie as tie
 
 abbrev Inv-loop : tie.InvT-loop
-Inv-loop sheet run a e i₀ i = Passed run sheet a e i
+Inv-loop sheet run a e i₀ i = Passed (inRun run) sheet a e i
 
 abbrev μ-loop : tie.MeasureT-loop
 μ-loop sheet run a e i₀ i = e - i
