@@ -42,7 +42,7 @@ const fn shape(
     }
 }
 
-pub const SHAPES: [Shape; 17] = [
+pub const SHAPES: [Shape; 18] = [
     shape("exercise", 50, exercise, "a message of a dozen fields"),
     shape("prefix", FULL, prefix, "511 fields, a common prefix"),
     shape("overlap", FULL, overlap, "511 names of 255 bytes"),
@@ -75,6 +75,7 @@ pub const SHAPES: [Shape; 17] = [
         "16 in each of 31 variants",
     ),
     shape("collisions", FULL, collisions, "511 names of one bucket"),
+    shape("marks", FULL, marks, "1,022 ordinals of one mark"),
 ];
 
 struct Maker {
@@ -299,6 +300,16 @@ fn overlap(maker: &mut Maker) {
 }
 
 fn variants(maker: &mut Maker) {
+    variants_in_steps(maker, 1);
+}
+
+/// Ordinals that the library's marks cannot tell apart: a mark is the remainder by 1,021.
+fn marks(maker: &mut Maker) {
+    variants_in_steps(maker, 1021);
+}
+
+/// Variants of an enum, their ordinals multiples of `step`.
+fn variants_in_steps(maker: &mut Maker, step: usize) {
     maker.head(sub::HEAD_ENUM);
     let backing = maker.random.between(1, 3) as u8;
     maker.draft.add(kind::BACKING, backing);
@@ -306,7 +317,7 @@ fn variants(maker: &mut Maker) {
     let ordinals = maker.ordered(count);
     for i in 0..count {
         let name = format!("variant_{i}");
-        maker.draft.variant(name.as_bytes(), ordinals[i] as u64);
+        maker.draft.variant(name.as_bytes(), (ordinals[i] * step) as u64);
     }
 }
 
