@@ -17,7 +17,9 @@ nests-end-spec =
     (λ c. omega arith)
     (λ c. omega (arith, sound-height _ _ (c .before .before .before .pre .0)))
     (λ c. search laws)
-    (λ c. (c .before .before .before .before .before .pre .0) .bounded _ (omega arith))
+    (λ c.
+    let start = c .before .before .before .before .before in
+    omega (arith, (start .pre .0) .bounded (start .args .height - 1) (omega arith)))
     (λ c. omega arith)
     (λ c. omega arith)
     (λ c κs. search needs)
