@@ -1,10 +1,11 @@
 -- The parts of the table stand one behind the other, each 1024 numbers long, so an entry of the filled table is worked out from its record.
-use Prim.Native.Nat.{ℕ, zero, suc, _+_, _*_, _<_, _≤_}
+use Prim.Native.Nat.{ℕ, zero, suc, _+_, _-_, _*_, _<_, _≤_}
 use native.Mathlib.Nat.{zero-add}
+use native.Mathlib.Decide.{decLt}
 use native.Mathlib.Omega.{arith}
 use mathlib.Core.Path.{_≡_, refl, sym, ap, _∙_}
 use mathlib.Core.List.{List, [], _∷_, _++_, append-assoc}
-use lib.ListN.{length, getD, replicate, length-append, length-take, length-replicate, List·getD-append}
+use lib.ListN.{length, getD, replicate, length-append, length-take, length-replicate, getD-replicate, List·getD-append}
 use lib.Seq.{getD-take, getD-append-add}
 use Rattle.rules.specs.declared.span.Span.{Span}
 use Rattle.rules.specs.Words.{numberIf, anyOf, select}
@@ -12,7 +13,7 @@ use Rattle.rules.specs.Kind
 use Rattle.rules.specs.Record.{Rec, is}
 use Rattle.names.specs.NameTable.{numbered, column, isNamed, idIn, declarationIn, importIn, targetIn, codeOf, tableOf}
 use Rattle.names.specs.View.{entryOf, wildcardOf, declarationsOf}
-use Rattle.names.proofs.Entries.{entry-in}
+use Rattle.names.proofs.Entries.{entry-in, entry-out}
 
 module _ {A : Type 0} (f : ℕ → A → ℕ) where
   length-numbered : (k : ℕ) (xs : List A) → length (numbered f k xs) ≡ length xs
@@ -39,6 +40,15 @@ module _ {A : Type 0} (f : ℕ → A → ℕ) where
       ∙ numbered-at 0 i xs d h
       ∙ ap (λ n. f n (getD xs i d)) (zero-add i)
 
+  column-past : (xs : List A) (i : ℕ) → length xs ≤ i → i < 1024 → getD (column f xs) i 0 ≡ 0
+  unfolding column
+  column-past xs i h short =
+      let split : length (numbered f 0 xs) + (i - length xs) ≡ i = rw length-numbered (omega arith) in
+      getD-take 1024 (numbered f 0 xs ++ replicate 1024 0) i 0 short
+      ∙ ap (λ n. getD (numbered f 0 xs ++ replicate 1024 0) n 0) (sym split)
+      ∙ getD-append-add (numbered f 0 xs) (replicate 1024 0) (i - length xs) 0
+      ∙ getD-replicate 1024 (i - length xs) 0 0 (omega arith)
+
 module _ {A : Type 0} where
   -- a column for each function, and numbers behind them
   joined : List (ℕ → A → ℕ) → List A → List ℕ → List ℕ
@@ -58,6 +68,17 @@ module _ {A : Type 0} where
       rw (zero-add i) (List·getD-append (column f xs) (joined fs xs ns) 0 i (rw length-column (omega arith)) ∙ column-at f xs i d h short)
   joined-at (f ∷ fs) xs ns (suc part) i d b h short =
       past f xs (joined fs xs ns) (part * 1024 + i) (suc part * 1024 + i) (omega arith) ∙ joined-at fs xs ns part i d (omega arith) h short
+
+  -- past the last record
+  joined-out :
+      (fs : List (ℕ → A → ℕ)) (xs : List A) (ns : List ℕ) (part i : ℕ) → part < length fs → length xs ≤ i → i < 1024 →
+      getD (joined fs xs ns) (part * 1024 + i) 0 ≡ 0
+  unfolding joined
+  joined-out [] xs ns part i b h short = absurd (omega arith)
+  joined-out (f ∷ fs) xs ns zero i b h short =
+      rw (zero-add i) (List·getD-append (column f xs) (joined fs xs ns) 0 i (rw length-column (omega arith)) ∙ column-past f xs i h short)
+  joined-out (f ∷ fs) xs ns (suc part) i b h short =
+      past f xs (joined fs xs ns) (part * 1024 + i) (suc part * 1024 + i) (omega arith) ∙ joined-out fs xs ns part i (omega arith) h short
 
   joined-past : (fs : List (ℕ → A → ℕ)) (xs : List A) (ns : List ℕ) (m : ℕ) → getD (joined fs xs ns) (length fs * 1024 + m) 0 ≡ getD ns m 0
   unfolding joined
@@ -96,3 +117,11 @@ module _ (rs : List (Rec (List ℕ) Span)) where
       entryOf part (tableOf rs) i ≡ getD parts part (λ k r. 0) i (getD rs i d)
   entry-at part i d b h short =
       sym (entry-in part i (tableOf rs) (omega arith)) ∙ rw table-joined (joined-at parts rs counts part i d b h short)
+
+  -- and for one that it does not have
+  pub entry-past : (part i : ℕ) → part < 5 → length rs ≤ i → entryOf part (tableOf rs) i ≡ 0
+  entry-past part i b h = go (decLt i 1024)
+    where
+      go : Dec (i < 1024) → entryOf part (tableOf rs) i ≡ 0
+      go (yes l) = sym (entry-in part i (tableOf rs) l) ∙ rw table-joined (joined-out parts rs counts part i b h l)
+      go (no l) = sym (entry-out part i (tableOf rs) (omega arith))

@@ -22,4 +22,6 @@ pub mod Leads
 pub mod Noting
 pub mod Reading
 pub mod Spreading
+pub mod Shortened
+pub mod Targeted
 pub mod Renamed

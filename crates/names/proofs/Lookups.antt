@@ -19,7 +19,7 @@ use Rattle.rules.proofs.Moved.{sameBytes-tells}
 use Rattle.rules.proofs.Renamed.{named}
 use Rattle.rules.proofs.Unused.{if-same}
 use Rattle.names.specs.NameTable.{placeOf, isNamed, sameName, idIn, declarationIn, importIn}
-use Rattle.names.proofs.FirstPlaces.{oneOn, place-same, place-passes, place-none}
+use Rattle.names.proofs.FirstPlaces.{oneOn, place-same, place-never, place-passes, place-none}
 
 pub same-itself : (xs : List ℕ) → sameBytes xs xs ≡ true
 unfolding sameBytes
@@ -54,6 +54,16 @@ module _ {P : Type 0} where
         let test : Rec (List ℕ) P → Bool = λ q. is Kind.ImportedName q && sameName r q in
         let same = any-same (λ q. q) test (bears Kind.ImportedName (r .name)) (every-as (bears-same Kind.ImportedName refl r h) fits) in
         sym (ap (anyOf test) (sym (map-id rs)) ∙ same) ∙ sym (tested (anyOf test rs))
+
+  -- a record without a name
+  pub declaration-none : (rs : List (Rec (List ℕ) P)) (r : Rec (List ℕ) P) → isNamed r ≡ false → declarationIn rs r ≡ 0
+  unfolding declarationIn sameName
+  declaration-none rs r h =
+      place-never _ (λ q. ap (λ b. is Kind.Declaration q && (b && isNamed q && sameBytes (q .name) (r .name))) h ∙ neither (is Kind.Declaration q)) rs
+    where
+      neither : (b : Bool) → (b && false) ≡ false
+      neither true = refl
+      neither false = refl
 
   -- the first declaration of the name, from a list that begins with it
   abbrev pub declaredFirst : List (Rec (List ℕ) P) → Option (Declared (List ℕ) P)

@@ -6,7 +6,7 @@ use native.Mathlib.Decide.{decLt}
 use native.Mathlib.Numerals.{add-one}
 use native.Mathlib.Omega.{arith}
 use mathlib.Core.Path.{_≡_, refl, sym, ap, ap₂, _∙_}
-use mathlib.Core.Bool.{Bool, true, false, not, _&&_, _||_}
+use mathlib.Core.Bool.{Bool, true, false, not, _&&_, _||_, true≢false}
 use mathlib.Core.List.{List, [], _∷_, map}
 use mathlib.Core.Option.{Option, some, none}
 use lib.ListN.{length, getD, drop, drop-of-length-le}
@@ -17,22 +17,25 @@ use Rattle.rules.specs.Words.{within, numberIf, anyOf, sameBytes, lookUp}
 use Rattle.rules.specs.Kind
 use Rattle.rules.specs.Sub
 use Rattle.rules.specs.Record.{Rec, is, recordSize, recordBytes, isNamedIn, fitsIn, nameIn, subIn, decode, pieces, records}
-use Rattle.rules.specs.Context.{Declared, contextOf, declared, innerOf}
+use Rattle.rules.specs.Context.{Declared, ValidationContext, contextOf, declared, innerOf, behind}
 use Rattle.rules.specs.Refusals.{endlessChain}
 use Rattle.rules.specs.Bodies.{violationsOf}
 use Rattle.rules.specs.Answer.{isAccepted, foundIn}
 use Rattle.rules.proofs.Every.{Every, every-nil, every-cons, every-at}
 use Rattle.rules.proofs.Records.{length-records, records-at, records-drop, records-end}
 use Rattle.rules.proofs.AcceptedSheet.{accepted-length, accepted-whole, accepted-fits}
-use Rattle.rules.proofs.Renamed.{renamed, mapOption, Holds, renamedDeclared, WellNamed, Agree, endless-renamed}
+use Rattle.rules.proofs.Chains.{isSome, goesOn, chain-stays, never-ends}
+use Rattle.rules.proofs.Renamed.{renamed, mapOption, Holds, renamedDeclared, WellNamed, Agree, Alike, endless-renamed, goes-renamed, never-renamed, agree-alike}
 use Rattle.rules.proofs.RenamedBodies.{violations-renamed}
-use Rattle.names.specs.NameTable.{placeOf, isNamed, idIn, targetAt, targetIn, codeOf, nameTable, tableOf}
+use Rattle.names.specs.NameTable.{placeOf, isNamed, idIn, declarationIn, targetAt, targetIn, codeOf, nameTable, tableOf}
 use Rattle.names.specs.Parts.{targetOf}
 use Rattle.names.specs.View.{viewAt, viewFrom, viewOf, entryOf, idPart, declarationPart, importPart, targetPart, codePart, declaredBy, contextBy}
+use Rattle.names.specs.SameEnds.{subOf, SameEnds, Lasting}
+use Rattle.names.proofs.Targeted.{innerAt, declaredAt, undeclared-behind}
 use Rattle.names.proofs.CodeEntries.{code-word, code-blank, code-valid}
 use Rattle.names.proofs.FirstPlaces.{place-passes}
-use Rattle.names.proofs.ColumnEntries.{parts, entry-at, wildcard-entry, declarations-entry}
-use Rattle.names.proofs.Lookups.{tested, bears, declaration-place, import-says, declaredFirst, declared-place, id-same}
+use Rattle.names.proofs.ColumnEntries.{parts, entry-at, entry-past, wildcard-entry, declarations-entry}
+use Rattle.names.proofs.Lookups.{tested, bears, declaration-place, declaration-none, import-says, declaredFirst, declared-place, id-same}
 
 -- the name of record i
 abbrev pub nameAt : List ℕ → List ℕ → ℕ → List ℕ
@@ -87,21 +90,6 @@ named-within sheet i whole h = go (decLt i (length sheet / 32))
     go (no g) =
         let empty = drop-of-length-le sheet {i = 32 * i} (omega arith) in
         let z : _≡_ {A = ℕ} 0 1 = cc (rw empty at h) in omega arith
-
--- the type at a place
-abbrev innerAt : List ℕ → ℕ → Option (Rec ℕ Span)
-innerAt sheet target = elim target [ zero ↦ none | suc t ↦ some (viewAt sheet t) ]
-
--- a declaration of the view, by the places of its record and of its type
-abbrev declaredAt : List ℕ → ℕ → ℕ → Option (Declared ℕ Span)
-declaredAt sheet declaration target =
-    elim declaration [
-      | zero ↦ none
-      | suc d ↦ some (record {
-        sub = subIn (recordBytes sheet d);
-        inner = innerAt sheet target;
-      })
-    ]
 
 declared-well :
     (sheet : List ℕ) (declaration target : ℕ) →
@@ -264,6 +252,31 @@ module _ (sheet names : List ℕ) (room : length sheet ≤ 32768) (whole : lengt
       Agree (nameAt sheet names) (HasName sheet) (contextOf (records sheet names)) (contextBy (nameTable sheet names) sheet)
   contexts-agree = rw table-whole agree
 
+  -- a record without a name is not declared
+  nameless : (m : ℕ) → isNamedIn (recordBytes sheet m) ≡ false → declaredBy (tableOf rs) sheet m ≡ none
+  unfolding declaredBy decode
+  nameless m h = ap (λ d. declaredAt sheet d (entryOf targetPart (tableOf rs) m)) (go (decLt m (length sheet / 32)))
+    where
+      go : Dec (m < length sheet / 32) → entryOf declarationPart (tableOf rs) m ≡ 0
+      go (yes l) =
+          entry-at rs declarationPart m nobody (omega arith) (rw length-records l) short
+          ∙ ap (declarationIn rs) (records-at sheet names m nobody l)
+          ∙ declaration-none rs (recordAt m) (ap (λ b. b && fitsIn names (recordBytes sheet m)) h)
+      go (no l) = entry-past rs declarationPart m (omega arith) (rw length-records (omega arith))
+
+  -- a chain that the table gives and that has not ended after as many steps as there are declarations never ends
+  pub table-lasting : Lasting (contextBy (nameTable sheet names) sheet)
+  unfolding contextBy contextOf
+  table-lasting r e n = go (isNamedIn (recordBytes sheet (r .name))) refl
+    where
+      go : (b : Bool) → isNamedIn (recordBytes sheet (r .name)) ≡ b → goesOn (contextBy (nameTable sheet names) sheet) n r ≡ true
+      go true h =
+          sym (goes-renamed contexts-agree n r (λ x. h))
+          ∙ never-ends rs (renamed (nameAt sheet names) r) (never-renamed contexts-agree r (λ x. h) ∙ e) n
+      go false h =
+          let none-behind : behind (contextBy (nameTable sheet names) sheet) r ≡ none = rw table-whole (undeclared-behind _ r (nameless (r .name) h)) in
+          absurd (true≢false (sym e ∙ ap isSome (ap (behind _) (chain-stays _ _ r none-behind) ∙ none-behind)))
+
   -- row 9 by the table
   pub table-chains :
       endlessChain (contextBy (nameTable sheet names) sheet) 0 (viewOf sheet 0 (length sheet / recordSize))
@@ -272,13 +285,40 @@ module _ (sheet names : List ℕ) (room : length sheet ≤ 32768) (whole : lengt
       sym (endless-renamed contexts-agree 0 (view-well sheet 0 (length sheet / recordSize - 0)))
       ∙ ap (endlessChain (contextOf (records sheet names)) 0) (sym records-renamed)
 
+-- what has the same ends as an alike context is alike
+alike-through : {M N P : Type 0} {g : M → N} {Good : M → Type 0} (ctx : ValidationContext N P) (ctx′ ctx″ : ValidationContext M P)
+    → Alike g Good ctx ctx′ → SameEnds ctx′ ctx″ → Alike g Good ctx ctx″
+alike-through {M} {N} {P} {g} {Good} ctx ctx′ ctx″ alike ends =
+    record {
+      declared = λ ask m h. alike .declared ask m h ∙ told ask (ctx′ .declMap m) ∙ ap (asked ask) (ends .declared m) ∙ sym (told ask (ctx″ .declMap m));
+      end = λ r w.
+          let end = alike .end r w in
+          (end .0 ∙ ap (renamed g) (ends .ends r), rw (← ends .ends r) (end .1));
+      importedNames = λ m h. alike .importedNames m h ∙ ap (λ f. f m) (ends .importedNames);
+      hasWildcardImport = alike .hasWildcardImport ∙ ends .hasWildcardImport;
+      same = λ m k h l. alike .same m k h l ∙ ap (λ f. f m k) (ends .same);
+      word = λ m h. alike .word m h ∙ ap (λ f. f m) (ends .word);
+      blank = λ m h. alike .blank m h ∙ ap (λ f. f m) (ends .blank);
+      isValidFieldName = λ m h. alike .isValidFieldName m h ∙ ap (λ f. f m) (ends .isValidFieldName);
+    }
+  where
+    asked : (ℕ → Bool) → Option ℕ → Bool
+    asked ask none = false
+    asked ask (some s) = ask s
+
+    told : (ask : ℕ → Bool) (o : Option (Declared M P)) → _≡_ {A = Bool} (elim o [ none ↦ false | some d ↦ ask (d .sub) ]) (asked ask (subOf o))
+    told ask none = refl
+    told ask (some d) = refl
+
 module _ (sheet names : List ℕ) (accepted : isAccepted sheet names ≡ true) where
-  -- the table gives the list
-  pub table-list : violationsOf (contextBy (nameTable sheet names) sheet) (viewOf sheet 0 (length sheet / recordSize)) ≡ foundIn sheet names
+  -- the table gives the list, and so does one that leads to the same ends
+  pub table-list : (table : List ℕ) → SameEnds (contextBy (nameTable sheet names) sheet) (contextBy table sheet)
+      → violationsOf (contextBy table sheet) (viewOf sheet 0 (length sheet / recordSize)) ≡ foundIn sheet names
   unfolding foundIn
-  table-list =
+  table-list table ends =
       let room = accepted-length sheet names accepted in
       let whole = accepted-whole sheet names accepted in
       let fits = accepted-fits sheet names accepted in
-      sym (violations-renamed (contexts-agree sheet names room whole fits) (view-well sheet 0 (length sheet / recordSize - 0)))
+      let alike = alike-through _ _ _ (agree-alike (contexts-agree sheet names room whole fits)) ends in
+      sym (violations-renamed alike (view-well sheet 0 (length sheet / recordSize - 0)))
       ∙ ap (violationsOf (contextOf (records sheet names))) (sym (records-renamed sheet names room whole fits))

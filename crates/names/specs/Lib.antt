@@ -4,4 +4,5 @@ pub mod Parts
 pub mod Notes
 pub mod View
 pub mod Same
+pub mod SameEnds
 pub mod Code

@@ -1,6 +1,6 @@
 -- Row 9 takes the newtypes in turn, and asks the table for the type behind a type.
 use Prim.Native.Nat.{ℕ, zero, suc, _+_, _-_, _/_, _<_, _≤_}
-use native.Mathlib.Decide.{decLe, decLt, ℕ-discrete}
+use native.Mathlib.Decide.{decLt, ℕ-discrete}
 use native.Mathlib.Omega.{arith}
 use native.Mathlib.Numerals.{add-one}
 use mathlib.Core.Path.{_≡_, refl, sym, ap, _∙_}
@@ -9,12 +9,11 @@ use mathlib.Core.List.{List, [], _∷_}
 use mathlib.Core.Option.{Option, some, none}
 use lib.ListN.{length}
 use lib.Dec.{eqb}
-use borrow.Author.Tests.{ne-eqb, eq-eqb, le-ltb}
+use borrow.Author.Tests.{ne-eqb, eq-eqb}
 use Rattle.rules.specs.declared.span.Span.{Span}
 use Rattle.rules.specs.Record.{Rec, isOf, recordBytes, kindIn, subIn}
 use Rattle.rules.specs.Context.{Declared, ValidationContext, behind, neverEnds}
 use Rattle.rules.specs.Refusals.{Fault, leadsNowhere, endlessChain}
-use Rattle.rules.proofs.Chains.{isSome}
 use Rattle.names.specs.View.{viewAt, viewFrom, viewOf, entryOf, declarationPart, targetPart, declaredBy, contextBy}
 use Rattle.refusals.specs.Pass.{Ended}
 use Rattle.refusals.specs.Turned.{placed, endlessBy}
@@ -67,26 +66,6 @@ module _ (table sheet : List ℕ) where
       pub behind-target : (r : ℕ) → (d ≡ 0 → ⊥) → r ≡ entryOf targetPart table t → placed sheet r ≡ behind ctx (viewAt sheet t)
       behind-target r n hr =
           rw hr (same-place (entryOf targetPart table t) ∙ sym (behind-as true (eq-eqb k 33 named) ∙ inner-of d (sym hd) n))
-
-  -- there is a type behind no record past the last that the table has
-  behind-past : (t : ℕ) → 1024 ≤ t → behind ctx (viewAt sheet t) ≡ none
-  unfolding entryOf
-  behind-past t h =
-      let named : Bool = eqb (kindIn (recordBytes sheet t)) 33 in
-      behind-as t _ refl named refl
-      ∙ ap (λ (o : Option (Declared ℕ Span)). behindOf o named) (declared-none t (rw (le-ltb t 1024 h)))
-      ∙ nothing named
-    where
-      nothing : (b : Bool) → behindOf none b ≡ none
-      nothing true = refl
-      nothing false = refl
-
-  pub behind-within : (t : ℕ) → isSome (behind ctx (viewAt sheet t)) ≡ true → t < 1024
-  behind-within t h = go (decLe 1024 t)
-    where
-      go : Dec (1024 ≤ t) → t < 1024
-      go (no l) = omega arith
-      go (yes l) = let z : _≡_ {A = ℕ} 0 1 = cc (behind-past t l) in omega arith
 
   -- the place of the next type
   pub next-none : (p : ℕ) (o : Option (Rec ℕ Span)) → placed sheet p ≡ o → p ≡ 0 → none ≡ o
@@ -171,6 +150,3 @@ module _ (table sheet : List ℕ) where
   module _ (end n : ℕ) (e : Ended sheet end (length sheet / 32)) where
     pub past-end : (i : ℕ) (all : Option Fault) → n ≡ length sheet / 32 → endlessChain ctx i (viewOf sheet i n) ≡ all → end ≤ i → none ≡ all
     past-end i all hn inv h = endless-rest n i n all (omega arith) inv (λ j a b. e .none j (omega arith) (omega arith))
-
-  pub none-at-all : (end : ℕ) → Ended sheet end (length sheet / 32) → end ≡ 0 → none ≡ endlessBy table sheet
-  none-at-all end e z = past-end end (length sheet / 32) e 0 (endlessBy table sheet) refl (endless-starts (length sheet / 32) refl) (omega arith)

@@ -13,7 +13,7 @@ pub mod Bodies
 pub mod Passes
 pub mod PlainRuns
 pub mod ChainWalk
-pub mod ChainLengths
+pub mod ChainEnds
 pub mod InTurn
 -- The filled table.
 pub mod Seconds

@@ -5,4 +5,4 @@ pub mod States
 pub mod Pass
 pub mod Runs
 pub mod Turned
-pub mod Lengths
+pub mod Ends

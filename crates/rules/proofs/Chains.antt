@@ -183,7 +183,8 @@ module _ {N P : Type 0} (ctx : ValidationContext N P) where
   abbrev pub goesOn : ℕ → Rec N P → Bool
   goesOn n r = isSome (behind ctx (chainEnd ctx n r))
 
-  chain-stays : (m : ℕ) (r : Rec N P) → behind ctx r ≡ none → chainEnd ctx m r ≡ r
+  -- nothing is behind a type: the chain stays there
+  pub chain-stays : (m : ℕ) (r : Rec N P) → behind ctx r ≡ none → chainEnd ctx m r ≡ r
   unfolding chainEnd
   chain-stays zero r e = refl
   chain-stays (suc m) r e = rw (e, chainEnd)

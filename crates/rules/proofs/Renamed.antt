@@ -1,5 +1,5 @@
 -- Records under other names, and contexts that say the same of them. Each step of a chain leads to the same type but for its name, so the
--- chain ends in the same type, or never ends.
+-- chain ends in the same type, or never ends. For the rules it is enough that chains end in the same types, in however many steps.
 use Prim.Native.Nat.{ℕ, zero, suc}
 use mathlib.Core.Path.{_≡_, refl, ap, _∙_}
 use mathlib.Core.Bool.{Bool, true, false, _&&_}
@@ -13,6 +13,7 @@ use Rattle.rules.specs.Sub
 use Rattle.rules.specs.Record.{Rec, is, isOf}
 use Rattle.rules.specs.Context.{ValidationContext, Declared, declaredAs, behind, chainEnd, neverEnds}
 use Rattle.rules.specs.Refusals.{Fault, leadsNowhere, endlessChain}
+use Rattle.rules.proofs.Chains.{isSome, goesOn}
 use Rattle.rules.proofs.Every.{Every, every-nil, every-cons, every-as}
 use Rattle.rules.proofs.Mapped.{any-same}
 use Rattle.rules.proofs.Unused.{if-same}
@@ -62,6 +63,24 @@ pub record Agree {M N P : Type 0} (g : M → N) (Good : M → Type 0) (ctx : Val
   pub blank : (m : M) → Good m → ctx .blank (g m) ≡ ctx′ .blank m
   pub isValidFieldName : (m : M) → Good m → ctx .isValidFieldName (g m) ≡ ctx′ .isValidFieldName m
 
+-- the contexts say the same of good names, and chains end in the same types
+pub record Alike {M N P : Type 0} (g : M → N) (Good : M → Type 0) (ctx : ValidationContext N P) (ctx′ : ValidationContext M P)
+    : Type 0 where
+  pub declared :
+      (ask : ℕ → Bool) (m : M) → Good m →
+      _≡_ {A = Bool} (elim (ctx .declMap (g m)) [ none ↦ false | some d ↦ ask (d .sub) ])
+      (elim (ctx′ .declMap m) [ none ↦ false | some d ↦ ask (d .sub) ])
+  pub end :
+      (r : Rec M P) → WellNamed Good r →
+      (chainEnd ctx (ctx .declarations) (renamed g r) ≡ renamed g (chainEnd ctx′ (ctx′ .declarations) r))
+      × WellNamed Good (chainEnd ctx′ (ctx′ .declarations) r)
+  pub importedNames : (m : M) → Good m → ctx .importedNames (g m) ≡ ctx′ .importedNames m
+  pub hasWildcardImport : ctx .hasWildcardImport ≡ ctx′ .hasWildcardImport
+  pub same : (m k : M) → Good m → Good k → ctx .same (g m) (g k) ≡ ctx′ .same m k
+  pub word : (m : M) → Good m → ctx .word (g m) ≡ ctx′ .word m
+  pub blank : (m : M) → Good m → ctx .blank (g m) ≡ ctx′ .blank m
+  pub isValidFieldName : (m : M) → Good m → ctx .isValidFieldName (g m) ≡ ctx′ .isValidFieldName m
+
 -- a record of a kind with a name has one
 pub named : {N P : Type 0} (k : ℕ) → member k Kind.withName ≡ true → (r : Rec N P) → is k r ≡ true → Kind.hasName (r .kind) (r .sub) ≡ true
 named k h r e = rw (eqb-true (r .kind) k e, h)
@@ -71,28 +90,10 @@ abbrev pub GoodName : {M P : Type 0} → (M → Type 0) → Rec M P → Type 0
 GoodName Good r = Good (r .name)
 
 module _ {M N P : Type 0} {g : M → N} {Good : M → Type 0} {ctx : ValidationContext N P} {ctx′ : ValidationContext M P}
-    (agree : Agree g Good ctx ctx′) where
-  abbrev Well : Rec M P → Type 0
-  Well = WellNamed Good
-
-  -- what is asked of the sub that a name is declared with
-  pub declared-renamed :
-      (ask : ℕ → Bool) (m : M) → Good m →
-      _≡_ {A = Bool} (elim (ctx .declMap (g m)) [ none ↦ false | some d ↦ ask (d .sub) ])
-      (elim (ctx′ .declMap m) [ none ↦ false | some d ↦ ask (d .sub) ])
-  declared-renamed ask m h =
-      ap (λ (o : Option (Declared N P)). elim o as (λ x. Bool) [ none ↦ false | some d ↦ ask (d .sub) ]) (agree .declMap m h)
-      ∙ go (ctx′ .declMap m)
-    where
-      go :
-          (o : Option (Declared M P)) →
-          _≡_ {A = Bool} (elim (mapOption (renamedDeclared g) o) [ none ↦ false | some d ↦ ask (d .sub) ])
-          (elim o [ none ↦ false | some d ↦ ask (d .sub) ])
-      go none = refl
-      go (some d) = refl
-
+    (alike : Alike g Good ctx ctx′) where
+  -- the name is declared with that sub
   pub as-renamed : (sub : ℕ) (m : M) → Good m → declaredAs ctx sub (g m) ≡ declaredAs ctx′ sub m
-  as-renamed sub = declared-renamed (λ s. eqb s sub)
+  as-renamed sub = alike .declared (λ s. eqb s sub)
 
   -- what a rule asks of a type of that name
   pub named-renamed :
@@ -105,7 +106,12 @@ module _ {M N P : Type 0} {g : M → N} {Good : M → Type 0} {ctx : ValidationC
   -- the names met so far
   pub met-renamed :
       (m : M) → Good m → {names : List M} → Every Good names → anyOf (ctx .same (g m)) (map g names) ≡ anyOf (ctx′ .same m) names
-  met-renamed m h hs = any-same g (ctx .same (g m)) (ctx′ .same m) (every-as (λ k h′. agree .same m k h h′) hs)
+  met-renamed m h hs = any-same g (ctx .same (g m)) (ctx′ .same m) (every-as (λ k h′. alike .same m k h h′) hs)
+
+module _ {M N P : Type 0} {g : M → N} {Good : M → Type 0} {ctx : ValidationContext N P} {ctx′ : ValidationContext M P}
+    (agree : Agree g Good ctx ctx′) where
+  abbrev Well : Rec M P → Type 0
+  Well = WellNamed Good
 
   -- chains
   behind-renamed :
@@ -147,7 +153,7 @@ module _ {M N P : Type 0} {g : M → N} {Good : M → Type 0} {ctx : ValidationC
       go (some t) h ih = ih t h
 
   -- the type at the end of the chain
-  pub end-renamed :
+  end-renamed :
       (r : Rec M P) → WellNamed Good r →
       (chainEnd ctx (ctx .declarations) (renamed g r) ≡ renamed g (chainEnd ctx′ (ctx′ .declarations) r))
       × WellNamed Good (chainEnd ctx′ (ctx′ .declarations) r)
@@ -155,18 +161,19 @@ module _ {M N P : Type 0} {g : M → N} {Good : M → Type 0} {ctx : ValidationC
       let chain = chain-renamed (ctx′ .declarations) r w in
       (ap (λ n. chainEnd ctx n (renamed g r)) (agree .declarations) ∙ chain .0, chain .1)
 
-  never-renamed : (r : Rec M P) → Well r → neverEnds ctx (renamed g r) ≡ neverEnds ctx′ r
-  never-renamed r w =
-      let end = end-renamed r w in
-      let t : Rec M P = chainEnd ctx′ (ctx′ .declarations) r in
-      ap (λ (q : Rec N P). isThere (behind ctx q)) (end .0) ∙ ap isThere (behind-renamed t (end .1) .0) ∙ there (behind ctx′ t)
+  -- whether a chain goes on after n steps
+  pub goes-renamed : (n : ℕ) (r : Rec M P) → WellNamed Good r → goesOn ctx n (renamed g r) ≡ goesOn ctx′ n r
+  goes-renamed n r w =
+      let end = chain-renamed n r w in
+      let t : Rec M P = chainEnd ctx′ n r in
+      ap (λ (q : Rec N P). isSome (behind ctx q)) (end .0) ∙ ap isSome (behind-renamed t (end .1) .0) ∙ there (behind ctx′ t)
     where
-      isThere : Option (Rec N P) → Bool
-      isThere o = elim o [ none ↦ false | some t ↦ true ]
-
-      there : (o : Option (Rec M P)) → isThere (mapOption (renamed g) o) ≡ elim o [ none ↦ false | some t ↦ true ]
+      there : (o : Option (Rec M P)) → isSome (mapOption (renamed g) o) ≡ isSome o
       there none = refl
       there (some t) = refl
+
+  pub never-renamed : (r : Rec M P) → WellNamed Good r → neverEnds ctx (renamed g r) ≡ neverEnds ctx′ r
+  never-renamed r w = ap (λ n. goesOn ctx n (renamed g r)) (agree .declarations) ∙ goes-renamed (ctx′ .declarations) r w
 
   leads-renamed : {rs : List (Rec M P)} → Every Well rs → leadsNowhere ctx (map (renamed g) rs) ≡ leadsNowhere ctx′ rs
   leads-renamed every-nil = refl
@@ -182,3 +189,32 @@ module _ {M N P : Type 0} {g : M → N} {Good : M → Type 0} {ctx : ValidationC
         | true ↦ some (record { number = 9; index = i })
         | false ↦ endless-renamed (suc i) h t
       ]
+
+  -- contexts that say the same are alike
+  pub agree-alike : Alike g Good ctx ctx′
+  agree-alike =
+      record {
+        declared = asked;
+        end = end-renamed;
+        importedNames = agree .importedNames;
+        hasWildcardImport = agree .hasWildcardImport;
+        same = agree .same;
+        word = agree .word;
+        blank = agree .blank;
+        isValidFieldName = agree .isValidFieldName;
+      }
+    where
+      asked :
+          (ask : ℕ → Bool) (m : M) → Good m →
+          _≡_ {A = Bool} (elim (ctx .declMap (g m)) [ none ↦ false | some d ↦ ask (d .sub) ])
+          (elim (ctx′ .declMap m) [ none ↦ false | some d ↦ ask (d .sub) ])
+      asked ask m h =
+          ap (λ (o : Option (Declared N P)). elim o as (λ x. Bool) [ none ↦ false | some d ↦ ask (d .sub) ]) (agree .declMap m h)
+          ∙ go (ctx′ .declMap m)
+        where
+          go :
+              (o : Option (Declared M P)) →
+              _≡_ {A = Bool} (elim (mapOption (renamedDeclared g) o) [ none ↦ false | some d ↦ ask (d .sub) ])
+              (elim o [ none ↦ false | some d ↦ ask (d .sub) ])
+          go none = refl
+          go (some d) = refl

@@ -17,11 +17,11 @@ use Rattle.rules.specs.Bodies.{fieldScheme, enumScheme, flagsScheme, uni
 use Rattle.rules.specs.Bodies.{backingMax, usedOrdinals, bodyItems, backingViolations, enumViolations, flagsViolations, unionViolations, newtypeViolations, bodyViolations, declarationViolations, violationsOf}
 use Rattle.rules.proofs.Every.{Every, EveryOf, every-nil, every-cons, every-rest, every-items, every-as}
 use Rattle.rules.proofs.Mapped.{mapItem, rest-map, items-map, select-same, flatMap-map}
-use Rattle.rules.proofs.Renamed.{renamed, WellNamed, GoodName, Agree, named, as-renamed, named-renamed, met-renamed}
+use Rattle.rules.proofs.Renamed.{renamed, WellNamed, GoodName, Alike, named, as-renamed, named-renamed, met-renamed}
 use Rattle.rules.proofs.RenamedFields.{field-renamed}
 
 module _ {M N P : Type 0} {g : M → N} {Good : M → Type 0} {ctx : ValidationContext N P} {ctx′ : ValidationContext M P}
-    (agree : Agree g Good ctx ctx′) where
+    (alike : Alike g Good ctx ctx′) where
   -- the rules of a scheme at an item
   member-renamed :
       (s : Scheme) (gone met : List ℕ) {names : List M} (r : Rec M P) → Every Good names → GoodName Good r →
@@ -31,7 +31,7 @@ module _ {M N P : Type 0} {g : M → N} {Good : M → Type 0} {ctx : ValidationC
       λ i. foundAll (s .over) (ltb (s .greatest) (r .value)) (r .ordinalPlace)
       ++ foundAll (s .tombstoned) (member (r .value) gone) (r .ordinalPlace)
       ++ foundAll (s .repeated) (not (member (r .value) gone) && member (r .value) met) (r .ordinalPlace)
-      ++ foundAll (s .renamed) (met-renamed agree (r .name) good hs i) (r .place)
+      ++ foundAll (s .renamed) (met-renamed alike (r .name) good hs i) (r .place)
 
   -- a field, a variant or a bit has a name
   member-good : (r : Rec M P) → WellNamed Good r → isMember r ≡ true → GoodName Good r
@@ -83,7 +83,7 @@ module _ {M N P : Type 0} {g : M → N} {Good : M → Type 0} {ctx : ValidationC
   unfolding fieldItemViolations
   field-item-renamed it h =
       ap (λ vs. foundIf 1 (is Kind.Invariant (it .head)) (it .head .place) ++ onlyIf (is Kind.Field (it .head)) vs)
-      (field-renamed agree (h .rest))
+      (field-renamed alike (h .rest))
 
   -- the items of a body
   body-items-renamed :
@@ -141,7 +141,7 @@ module _ {M N P : Type 0} {g : M → N} {Good : M → Type 0} {ctx : ValidationC
       λ i. foundIf 37 (declared Sub.Newtype i) (t .place) ++ foundIf 38 (declared Sub.Config i) (t .place)
     where
       declared : (sub : ℕ) → (is Kind.Named t && declaredAs ctx sub (g (t .name))) ≡ (is Kind.Named t && declaredAs ctx′ sub (t .name))
-      declared sub = named-renamed agree t w (declaredAs ctx sub) (declaredAs ctx′ sub) (as-renamed agree sub)
+      declared sub = named-renamed alike t w (declaredAs ctx sub) (declaredAs ctx′ sub) (as-renamed alike sub)
 
   pub body-renamed :
       (sub : ℕ) {body : List (Rec M P)} → Every (WellNamed Good) body →

@@ -23,7 +23,7 @@ use Rattle.rules.proofs.Lists.{and-left, and-right}
 use Rattle.rules.proofs.Every.{Every, EveryOf, every-nil, every-cons, every-front, every-rest, every-take, every-items, every-as, every-front-as}
 use Rattle.rules.proofs.Mapped.{mapItem, take-map, firstIs-map, front-map, rest-map, items-map, any-same, select-same, flatMap-map, flatMap-same}
 use Rattle.rules.proofs.Unused.{if-same}
-use Rattle.rules.proofs.Renamed.{renamed, WellNamed, GoodName, Agree, named, declared-renamed, as-renamed, named-renamed, met-renamed, end-renamed}
+use Rattle.rules.proofs.Renamed.{renamed, WellNamed, GoodName, Alike, named, as-renamed, named-renamed, met-renamed}
 
 -- annotations and arguments have names
 annotated : {N P : Type 0} (r : Rec N P) → inAnnotations r ≡ true → Kind.hasName (r .kind) (r .sub) ≡ true
@@ -70,22 +70,22 @@ module _ {M N P : Type 0} (g : M → N) where
       }
 
 module _ {M N P : Type 0} {g : M → N} {Good : M → Type 0} {ctx : ValidationContext N P} {ctx′ : ValidationContext M P}
-    (agree : Agree g Good ctx ctx′) where
+    (alike : Alike g Good ctx ctx′) where
   -- types
   pub key-renamed : (r : Rec M P) → WellNamed Good r → isInvalidMapKey ctx (renamed g r) ≡ isInvalidMapKey ctx′ r
   unfolding isInvalidMapKey
   key-renamed r w =
-      let end = end-renamed agree r w in
+      let end = alike .end r w in
       let t : Rec M P = chainEnd ctx′ (ctx′ .declarations) r in
       let bad : Bool = is Kind.Primitive t && (within Sub.F32 Sub.F64 (t .sub) || eqb (t .sub) Sub.Void) in
       rw (end .0)
       (λ i. bad
       || within Kind.Optional Kind.Array (t .kind)
       || within Kind.Set Kind.Result (t .kind)
-      || named-renamed agree t (end .1)
+      || named-renamed alike t (end .1)
       (λ n. declaredAs ctx Sub.Message n || declaredAs ctx Sub.Union n || declaredAs ctx Sub.Config n)
       (λ m. declaredAs ctx′ Sub.Message m || declaredAs ctx′ Sub.Union m || declaredAs ctx′ Sub.Config m)
-      (λ m h j. as-renamed agree Sub.Message m h j || as-renamed agree Sub.Union m h j || as-renamed agree Sub.Config m h j) i)
+      (λ m h j. as-renamed alike Sub.Message m h j || as-renamed alike Sub.Union m h j || as-renamed alike Sub.Config m h j) i)
 
   keys-renamed : {rs : List (Rec M P)} → Every (WellNamed Good) rs → keyViolations ctx (map (renamed g) rs) ≡ keyViolations ctx′ rs
   keys-renamed every-nil = refl
@@ -103,19 +103,19 @@ module _ {M N P : Type 0} {g : M → N} {Good : M → Type 0} {ctx : ValidationC
       flatMap-same (renamed g)
       (λ bit. foundIf 12 (not (ctx .isValidFieldName (bit .name))) place)
       (λ bit. foundIf 12 (not (ctx′ .isValidFieldName (bit .name))) place)
-      (every-as (λ r good. ap (λ valid. foundIf 12 (not valid) place) (agree .isValidFieldName (r .name) good)) (every-cons {x = x} h hs))
+      (every-as (λ r good. ap (λ valid. foundIf 12 (not valid) place) (alike .isValidFieldName (r .name) good)) (every-cons {x = x} h hs))
 
   known-renamed : (m : M) → Good m → not (isKnownType ctx (g m)) ≡ not (isKnownType ctx′ m)
   known-renamed m h =
-      λ i. not (declared-renamed agree (λ s. true) m h i || agree .importedNames m h i || agree .hasWildcardImport i)
+      λ i. not (alike .declared (λ s. true) m h i || alike .importedNames m h i || alike .hasWildcardImport i)
 
   own-type-renamed :
       (t : Rec M P) {rs : List (Rec M P)} → WellNamed Good t → Every (WellNamed Good) rs →
       ownTypeViolations ctx (renamed g t) (map (renamed g) rs) ≡ ownTypeViolations ctx′ t rs
   unfolding ownTypeViolations anyOf
   own-type-renamed t {rs} w h =
-      let config = named-renamed agree t w (declaredAs ctx Sub.Config) (declaredAs ctx′ Sub.Config) (as-renamed agree Sub.Config) in
-      let unknown = named-renamed agree t w (λ n. not (isKnownType ctx n)) (λ m. not (isKnownType ctx′ m)) known-renamed in
+      let config = named-renamed alike t w (declaredAs ctx Sub.Config) (declaredAs ctx′ Sub.Config) (as-renamed alike Sub.Config) in
+      let unknown = named-renamed alike t w (λ n. not (isKnownType ctx n)) (λ m. not (isKnownType ctx′ m)) known-renamed in
       let good = every-front-as (is Kind.BitName) (λ r e v. v (named Kind.BitName refl r e)) h in
       let bits = ap (bitNameViolations ctx (t .place)) (front-map (renamed g) (is Kind.BitName) rs) ∙ bits-renamed (t .place) good in
       λ i. foundIf 6 (config i) (t .place)
@@ -140,13 +140,13 @@ module _ {M N P : Type 0} {g : M → N} {Good : M → Type 0} {ctx : ValidationC
 
   -- annotations, all of whose names are good
   reason-renamed : {a : Item (Rec M P)} → EveryOf (GoodName Good) a → hasReason ctx (mapItem (renamed g) a) ≡ hasReason ctx′ a
-  reason-renamed h = any-same (renamed g) _ _ (every-as (λ r good. ap (λ w. eqb w reason) (agree .word (r .name) good)) (h .rest))
+  reason-renamed h = any-same (renamed g) _ _ (every-as (λ r good. ap (λ w. eqb w reason) (alike .word (r .name) good)) (h .rest))
 
   limit-value-renamed :
       (ty : List (Rec M P)) (place : P) (r : Rec M P) → GoodName Good r →
       limitValueViolations ctx (map (renamed g) ty) place (renamed g r) ≡ limitValueViolations ctx′ ty place r
   limit-value-renamed ty place r good =
-      λ i. onlyIf (agree .blank (r .name) good i && within Sub.IntArgument Sub.HexArgument (r .sub))
+      λ i. onlyIf (alike .blank (r .name) good i && within Sub.IntArgument Sub.HexArgument (r .sub))
       (foundIf 18 (eqb (r .value) 0) place ++ foundIf 19 (ltb maxLimit (r .value) && capped-renamed g ty i) place)
 
   annotation-renamed :
@@ -155,7 +155,7 @@ module _ {M N P : Type 0} {g : M → N} {Good : M → Type 0} {ctx : ValidationC
   unfolding annotationViolations
   annotation-renamed ty a h =
       let place : P = a .head .place in
-      let word = agree .word (a .head .name) (h .head) in
+      let word = alike .word (a .head .name) (h .head) in
       let values = flatMap-same (renamed g) _ (limitValueViolations ctx′ ty place) (every-as (limit-value-renamed ty place) (h .rest)) in
       let reasoned = reason-renamed h in
       λ i. foundIf 14 (eqb (word i) varint && not (first-renamed g (λ t. isVarintValidType (t ∷ [])) ty i)) place
@@ -170,7 +170,7 @@ module _ {M N P : Type 0} {g : M → N} {Good : M → Type 0} {ctx : ValidationC
   GoodItem = EveryOf (GoodName Good)
 
   word-renamed : (w : ℕ) (a : Item (Rec M P)) → GoodItem a → isWord ctx w (mapItem (renamed g) a) ≡ isWord ctx′ w a
-  word-renamed w a h = ap (λ word. eqb word w) (agree .word (a .head .name) (h .head))
+  word-renamed w a h = ap (λ word. eqb word w) (alike .word (a .head .name) (h .head))
 
   combined-renamed :
       {anns : List (Item (Rec M P))} → Every GoodItem anns →
@@ -188,7 +188,7 @@ module _ {M N P : Type 0} {g : M → N} {Good : M → Type 0} {ctx : ValidationC
   unfolding duplicateAnnotations
   duplicates-renamed hs every-nil = refl
   duplicates-renamed hs (every-cons {x = a} h anns) =
-      λ i. foundIf 22 (not (word-renamed doc a h i) && met-renamed agree (a .head .name) (h .head) hs i) (a .head .place)
+      λ i. foundIf 22 (not (word-renamed doc a h i) && met-renamed alike (a .head .name) (h .head) hs i) (a .head .place)
       ++ duplicates-renamed (every-cons (h .head) hs) anns i
 
   pub annotations-renamed :
@@ -208,7 +208,7 @@ module _ {M N P : Type 0} {g : M → N} {Good : M → Type 0} {ctx : ValidationC
   operand-renamed takes o w =
       let good : isOf Kind.Operand Sub.ConstRef o ≡ true → GoodName Good o = λ e. w (rw e (or-true (member (o .kind) Kind.withName))) in
       let known : isOf Kind.Operand Sub.ConstRef o ≡ true → isKnownConst ctx (g (o .name)) ≡ isKnownConst ctx′ (o .name)
-      = λ e i. as-renamed agree Sub.Const (o .name) (good e) i || agree .importedNames (o .name) (good e) i in
+      = λ e i. as-renamed alike Sub.Const (o .name) (good e) i || alike .importedNames (o .name) (good e) i in
       let unknown = if-same (λ b k. b && not k) (isOf Kind.Operand Sub.ConstRef o) _ (isKnownConst ctx′ (o .name)) refl known in
       λ i. foundIf 23 (isOf Kind.Operand Sub.IntOperand o && not (takes .int)) (o .place)
       ++ foundIf 24 (isOf Kind.Operand Sub.FloatOperand o && not (takes .float)) (o .place)

@@ -23,6 +23,7 @@ use Rattle.rules.proofs.AcceptedSheet.{accepted-length}
 use Rattle.rules.proofs.Bound.{list-fits}
 use Rattle.names.specs.NameTable.{nameTable}
 use Rattle.names.specs.View.{viewOf, contextBy}
+use Rattle.names.specs.SameEnds.{SameEnds}
 use Rattle.names.proofs.Renamed.{table-list}
 use Rattle.diagnostic.specs.Push.{State, pushFound}
 use Rattle.diagnostic.proofs.Written.{push-written}
@@ -46,34 +47,34 @@ module _ (sheet names old : List ℕ) where
 
   -- the list
   listed :
-      (table : List ℕ) (s : State) → refusal sheet names ≡ none → table ≡ nameTable sheet names →
+      (table : List ℕ) (s : State) → refusal sheet names ≡ none →
+      SameEnds (contextBy (nameTable sheet names) sheet) (contextBy table sheet) →
       s
       ≡ pushFound (onlyIf (leb (length sheet) 32768) (violationsOf (contextBy table sheet) (viewOf sheet 0 (length sheet / recordSize))))
       (old, record { total = 0; errors = 0 }) →
       s
       ≡ (written (fullList sheet names) old, record { total = totalOf (fullList sheet names); errors = errorsOf (fullList sheet names) })
   unfolding pushFound fullList
-  listed table s told ht hs =
+  listed table s told ends hs =
       let good : isAccepted sheet names ≡ true = accepted told in
       hs
-      ∙ ap (λ t. pushFound (onlyIf (leb (length sheet) 32768) (violationsOf (contextBy t sheet) (viewOf sheet 0 (length sheet / recordSize)))) (old, record { total = 0; errors = 0 })) ht
-      ∙ ap (λ b. pushFound (onlyIf b (violationsOf (contextBy (nameTable sheet names) sheet) (viewOf sheet 0 (length sheet / recordSize)))) (old, record { total = 0; errors = 0 }))
+      ∙ ap (λ b. pushFound (onlyIf b (violationsOf (contextBy table sheet) (viewOf sheet 0 (length sheet / recordSize)))) (old, record { total = 0; errors = 0 }))
       (le-leb (length sheet) 32768 (accepted-length sheet names good))
-      ∙ ap (λ fs. pushFound fs (old, record { total = 0; errors = 0 })) (table-list sheet names good)
+      ∙ ap (λ fs. pushFound fs (old, record { total = 0; errors = 0 })) (table-list sheet names good table ends)
       ∙ push-written (fullList sheet names) old (omega (arith, list-fits sheet names good))
 
   -- an accepted call
   pub accepted-answered :
-      (v : Verdict) (table list : List ℕ) (counts : Counts) → verdictOf v ≡ refusal sheet names → table ≡ nameTable sheet names →
-      v ≡ Verdict.Accepted →
+      (v : Verdict) (table list : List ℕ) (counts : Counts) → verdictOf v ≡ refusal sheet names →
+      SameEnds (contextBy (nameTable sheet names) sheet) (contextBy table sheet) → v ≡ Verdict.Accepted →
       _≡_ {A = List ℕ × Counts} (list, counts)
       (pushFound (onlyIf (leb (length sheet) 32768) (violationsOf (contextBy table sheet) (viewOf sheet 0 (length sheet / recordSize))))
       (old, record { total = 0; errors = 0 })) →
       Answered sheet names old (valuesOf (Accepted counts)) list
   unfolding answer bufferAfter
-  accepted-answered v table list counts h ht e hs =
+  accepted-answered v table list counts h ends e hs =
       let told : refusal sheet names ≡ none = sym h ∙ ap verdictOf e in
-      let all = listed table (list, counts) told ht hs in
+      let all = listed table (list, counts) told ends hs in
       (rw (told, answer) (ap (λ s. valuesOf (Accepted (s .1))) all), rw (told, bufferAfter) (ap (λ s. s .0) all))
 
 -- the numbers of each answer

@@ -13,5 +13,4 @@ behind-spec =
     (λ c κs. search needs)
     (λ c. behind-undeclared _ _ _ _ (c .before .before .before .kind .ensures) (c .before .before .if1 .left) _ (c .before .declaration .ensures) (c .if2 .taken))
     (λ c κs. search needs)
-    (λ c. search needs)
     (λ c. behind-target _ _ _ _ (c .before .before .before .before .kind .ensures) (c .before .before .before .if1 .left) _ (c .before .before .declaration .ensures) _ (c .before .if2 .left) (c .target .ensures)))

@@ -1,7 +1,6 @@
--- A chain ends just if its length is at most the number of declarations.
-use native.Mathlib.Omega.{arith}
+-- A chain ends just if a place of its end was found.
 use borrow.Author.Needs.{needs}
-use Rattle.refusals.proofs.ChainLengths.{never-ended, ended}
+use Rattle.refusals.proofs.ChainEnds.{end-found, ended, endless-told, kept-itself}
 use Rattle.refusals.proofs.chain.never_ends.Statement.{statement}
 use Rattle.refusals.proofs.chain.never_ends.Tie as tie
 
@@ -10,9 +9,6 @@ never-ends-spec =
     tie.close
     (tie.spec
     (λ c κs. search needs)
-    (λ c κs. search needs)
-    (λ c κs. search needs)
-    (λ c. (never-ended _ _ _ _ (c .before .before .before .chain-length .ensures) (omega arith), search needs))
-    (λ c. search needs)
-    (λ c κs. (search needs, c .before .before .before .before .chain-length .ensures .ends (omega arith)))
-    (λ c. (ended _ _ _ _ (c .before .before .before .before .before .chain-length .ensures) (omega arith), search needs)))
+    (λ c. search (needs, endless-told, kept-itself))
+    (λ c κs. search (needs, end-found))
+    (λ c. search (needs, ended)))

@@ -1,6 +1,6 @@
 -- `accept` asks the rows by the table that it has filled.
 use borrow.Author.Needs.{needs}
-use Rattle.refusals.proofs.RefusalFilled.{told-by-filled}
+use Rattle.refusals.proofs.RefusalFilled.{told-by-filled, ends-by-filled}
 use Rattle.refusals.proofs.rows.accept.Statement.{statement}
 use Rattle.refusals.proofs.rows.accept.Tie as tie
 
@@ -8,4 +8,4 @@ pub accept-spec : {M : Type 1} → statement M
 accept-spec = tie.close (tie.spec
     (λ c κs. search needs)
     (λ c κs. search needs)
-    (λ c. search told-by-filled))
+    (λ c. search (needs, told-by-filled, ends-by-filled)))
