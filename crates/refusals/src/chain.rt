@@ -3,7 +3,7 @@
 // A chain is walked to its end. If it ends, it is walked once more, and the table leads from each type on its way to the end at once. So each newtype's
 // inner type is passed twice at most before it leads to its end, all chains that end take together at most five calls of `behind` for each newtype,
 // and the first that never ends takes one call more than there are declarations. That is linear in the declarations, and so are the keys that are
-// judged by the table afterwards: none of them is more than three steps from its end. No function here calls itself.
+// judged by the table afterwards: none of them is more than two steps from its end. No function here calls itself.
 ghost use mathlib.Core.Path.{_≡_};
 ghost use mathlib.Core.Bool.{_&&_};
 ghost use Prim.Native.Nat.{_+_, _-_, _/_, _≤_, _<_};
