@@ -1,10 +1,10 @@
 -- A whole field list: what is known before each record, and what is still to add.
-use Prim.Native.Nat.{ℕ, zero, suc, _+_, _-_, _%_, _≤_, _<_}
+use Prim.Native.Nat.{ℕ, zero, suc, _+_, _-_, _≤_, _<_}
 use native.Mathlib.Omega.{arith}
 use mathlib.Core.Path.{_≡_, refl, sym, ap, ap₂, _∙_}
 use mathlib.Core.Bool.{Bool, true, false, not, _&&_}
 use mathlib.Core.List.{List, []}
-use lib.ListN.{length, set}
+use lib.ListN.{length}
 use borrow.Author.Tests.{not-true}
 use Rattle.rules.specs.Words.{anyOf, member, items}
 use Rattle.rules.specs.Kind
@@ -19,13 +19,14 @@ use Rattle.annotations.specs.Chains.{hasKey, Chained, Ready}
 use Rattle.annotations.proofs.Chains.{chained-none, chained-other, chained-ready}
 use Rattle.annotations.proofs.FoundSteps.{found-step}
 use Rattle.bodies.specs.declared.seen.Seen.{Seen}
-use Rattle.bodies.specs.Seen.{latest, Marked}
-use Rattle.bodies.specs.Earlier.{valuesOf, earlier}
+use Rattle.bodies.specs.declared.seen.Meeting.{Meeting}
+use Rattle.bodies.specs.Seen.{latest, narrow, Marked, Known, MetAt}
+use Rattle.bodies.specs.Earlier.{valuesOf, earlier, valuesBefore}
 use Rattle.bodies.specs.Met.{ofKind}
 use Rattle.bodies.specs.declared.runs.Run.the-variants.{FieldItem}
 use Rattle.bodies.specs.Runs.{inRun, EndsAt, AllIn}
 use Rattle.bodies.specs.Items.{fieldFound}
-use Rattle.bodies.proofs.Passing.{values, gone, before, Known, known-start, known-other, known-room, known-member, known-gone, known-met}
+use Rattle.bodies.proofs.Passing.{gone, known-start, known-other}
 use Rattle.bodies.proofs.Turns.{namesOf, kind-is, kind-not, turn-none}
 use Rattle.bodies.proofs.Retired.{retired-fields}
 use Rattle.bodies.proofs.FieldTurns.{fieldsLeft, field-not, field-inner, field-other, field-turn}
@@ -55,7 +56,7 @@ module _ (table sheet : List ℕ) (a e : ℕ) where
   FieldsKnown tombstones seen marks names nameLinks s₀ s i =
       (length (s .0) ≡ length (s₀ .0))
       × (i ≤ e)
-      × Known 11 12 sheet a e tombstones seen marks i
+      × Known 11 12 sheet a e tombstones (seen .ordinals) marks (seen .len) i
       × Chained (ofKind 11 sheet) (entryOf idPart table) a names nameLinks i
       × (pushFound (fieldsLeft table sheet a e tombs i) s ≡ pushFound (fieldListViolations (contextBy table sheet) (viewOf sheet a e)) s₀)
 
@@ -73,7 +74,7 @@ module _ (table sheet : List ℕ) (a e : ℕ) where
       (length ordinals ≡ 1024)
       × (length marks ≡ 1021)
       × (tombstones ≤ e - a)
-      × (latest ordinals 0 tombstones ≡ valuesOf 12 (viewOf sheet a e))
+      × (latest ordinals 0 tombstones ≡ narrow (valuesOf 12 (viewOf sheet a e)))
       × Marked ordinals marks tombstones →
       FieldsKnown tombstones (record { ordinals = ordinals; len = tombstones }) marks names nameLinks s s a
   fields-none tombstones ordinals marks names nameLinks s le small r c = (
@@ -95,7 +96,7 @@ module _ (table sheet : List ℕ) (a e : ℕ) where
         let test : is Kind.Field (viewAt sheet i) ≡ false = kind-not sheet i k 11 hk ne in (
           size ∙ known .0,
           omega arith,
-          known-other 11 12 sheet a e tombstones seen marks i (known .2) h test,
+          known-other 11 12 sheet a e tombstones (seen .ordinals) marks (seen .len) i (known .2) h test,
           chained-other (ofKind 11 sheet) (entryOf idPart table) a names nameLinks i test (known .3),
           found-step _ _ _ s t _ (field-other table sheet a e tombs i (known .2 .2) h test) ht (known .4),
         )
@@ -108,15 +109,10 @@ module _ (table sheet : List ℕ) (a e : ℕ) where
         let test : is Kind.Field (viewAt sheet i) ≡ false = field-not (viewAt sheet i) st in (
           known .0,
           omega arith,
-          known-other 11 12 sheet a e tombstones seen marks i (known .2) h test,
+          known-other 11 12 sheet a e tombstones (seen .ordinals) marks (seen .len) i (known .2) h test,
           chained-other (ofKind 11 sheet) (entryOf idPart table) a names nameLinks i test (known .3),
           ap (λ fs. pushFound fs s) (sym (field-inner table sheet a e tombs i (known .2 .2) h st)) ∙ known .4,
         )
-
-    -- there is room for one field more
-    pub fields-room :
-        (k : ℕ) → FieldsKnown tombstones seen marks names nameLinks s₀ s i → i < e → k ≡ kindIn (recordBytes sheet i) → k ≡ 11 → seen .len < 1024
-    fields-room k known h hk eq = known-room 11 12 sheet a e tombstones seen marks i (known .2) h (kind-is sheet i k 11 hk eq)
 
   -- all of a field's parts
   fields-parts :
@@ -133,38 +129,35 @@ module _ (table sheet : List ℕ) (a e : ℕ) where
 
   -- a field
   pub fields-field :
-      (tombstones : ℕ) (seen : Seen) (marks names nameLinks names' nameLinks' : List ℕ) (s₀ s t : State) (i k ordinal p end : ℕ) (tombstoned met renamed : Bool) →
+      (tombstones : ℕ) (seen : Seen) (marks names nameLinks ordinals' marks' names' nameLinks' : List ℕ) (s₀ s t : State) (i k ordinal end : ℕ) (m : Meeting) (renamed : Bool) →
       FieldsKnown tombstones seen marks names nameLinks s₀ s i → i < e → k ≡ kindIn (recordBytes sheet i) → k ≡ 11 →
-      ordinal ≡ valueIn (recordBytes sheet i) → tombstoned ≡ member ordinal (latest (seen .ordinals) 0 (tombstones - 0)) →
-      met ≡ member ordinal (latest (seen .ordinals) tombstones (seen .len - tombstones)) → p ≡ ordinal % 1021 →
+      ordinal ≡ valueIn (recordBytes sheet i) → MetAt 11 12 sheet a e tombstones ordinals' marks' i ordinal m →
       (renamed ≡ hasKey (ofKind 11 sheet) (entryOf idPart table) a (entryOf idPart table i) (i - a))
       × Chained (ofKind 11 sheet) (entryOf idPart table) a names' nameLinks' (i + 1) →
       EndsAt (inRun FieldItem) sheet (i + 1) e end × (end ≤ e) × (i + 1 ≤ e → i + 1 ≤ end) × AllIn (inRun FieldItem) sheet (i + 1) end →
-      length (t .0) ≡ length (s .0) → t ≡ pushFound (fieldFound table sheet i end tombstoned met renamed) s →
-      FieldsKnown tombstones (record { ordinals = set (seen .ordinals) (seen .len) ordinal; len = seen .len + 1 }) (set marks p 1) names' nameLinks' s₀ t end
+      length (t .0) ≡ length (s .0) → t ≡ pushFound (fieldFound table sheet i end (m .tombstoned) (m .met) renamed) s →
+      FieldsKnown tombstones (record { ordinals = ordinals'; len = m .len }) marks' names' nameLinks' s₀ t end
   unfolding viewAt
-  fields-field tombstones seen marks names nameLinks names' nameLinks' s₀ s t i k ordinal p end tombstoned met renamed known h hk eq ho ht hm hp hr ends size hs =
+  fields-field tombstones seen marks names nameLinks ordinals' marks' names' nameLinks' s₀ s t i k ordinal end m renamed known h hk eq ho hm hr ends size hs =
       let test : is Kind.Field (viewAt sheet i) ≡ true = kind-is sheet i k 11 hk eq in
       let behind : i + 1 ≤ end = ends .2 (omega arith) in
       let last : i + 1 + (end - (i + 1)) ≡ end = omega arith in
-      let more : Seen = record { ordinals = set (seen .ordinals) (seen .len) ordinal; len = seen .len + 1 } in
-      let dead : tombstoned ≡ member (valueIn (recordBytes sheet i)) tombs =
-      known-gone 11 12 sheet a e tombstones seen marks i (known .2) ordinal tombstoned ht ∙ ap (λ v. member v tombs) ho in
-      let met-here : met ≡ member (valueIn (recordBytes sheet i)) (values (before 11 12 sheet a e i)) =
-      known-met 11 12 sheet a e tombstones seen marks i (known .2) ordinal met hm ∙ ap (λ v. member v (values (before 11 12 sheet a e i))) ho in
-      let next : FieldsKnown tombstones more (set marks p 1) names' nameLinks' s₀ t (i + 1) = (
+      let more : Seen = record { ordinals = ordinals'; len = m .len } in
+      let dead : m .tombstoned ≡ member (valueIn (recordBytes sheet i)) tombs = hm .0 ∙ ap (λ v. member v tombs) ho in
+      let met-here : m .met ≡ member (valueIn (recordBytes sheet i)) (valuesBefore 11 sheet a i) = hm .1 ∙ ap (λ v. member v (valuesBefore 11 sheet a i)) ho in
+      let next : FieldsKnown tombstones more marks' names' nameLinks' s₀ t (i + 1) = (
         size ∙ known .0,
         omega arith,
-        rw hp (known-member 11 12 sheet a e tombstones seen marks i (known .2) ordinal h test ho),
+        hm .2,
         hr .1,
         found-step _ _ _ s t _
-            (field-turn table sheet a e tombs i end tombstoned met renamed (known .2 .2) h test (ends .0)
+            (field-turn table sheet a e tombs i end (m .tombstoned) (m .met) renamed (known .2 .2) h test (ends .0)
             dead (ap₂ (λ g m. not g && m) dead met-here)
             (hr .0 ∙ has-names i (i - a)))
             hs (known .4),
       ) in
       rw last at
-      (fields-parts tombstones more (set marks p 1) names' nameLinks' s₀ t (i + 1) (end - (i + 1)) next (omega (arith, ends .1)) (rw (sym last) at (ends .3)))
+      (fields-parts tombstones more marks' names' nameLinks' s₀ t (i + 1) (end - (i + 1)) next (omega (arith, ends .1)) (rw (sym last) at (ends .3)))
 
   -- the end of the list
   pub fields-end :

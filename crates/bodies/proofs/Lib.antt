@@ -1,3 +1,4 @@
+pub mod Among
 pub mod Backings
 pub mod Bits
 pub mod BodyItems
@@ -8,6 +9,7 @@ pub mod FieldList
 pub mod FieldParts
 pub mod FieldTurns
 pub mod Marks
+pub mod Narrow
 pub mod Newtypes
 pub mod Ordinals
 pub mod Passing

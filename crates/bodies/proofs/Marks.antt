@@ -4,7 +4,7 @@ use native.Mathlib.Decide.{ℕ-discrete}
 use native.Mathlib.Omega.{arith}
 use native.Mathlib.Numerals.{add-one}
 use mathlib.Core.Path.{_≡_, refl, sym, ap, _∙_}
-use mathlib.Core.Bool.{Bool, false, _||_}
+use mathlib.Core.Bool.{Bool, true, false, _||_, or-assoc}
 use mathlib.Core.List.{List, _∷_}
 use lib.ListN.{length, getD, set}
 use lib.Seq.{getD-set-same, getD-set-other}
@@ -32,25 +32,54 @@ unfolding latest
 length-latest numbers a zero = refl
 length-latest numbers a (suc n) = ap suc (length-latest numbers a n)
 
--- a number is among them, one after the other
-pub contains-none : (numbers : List ℕ) (x a : ℕ) → false ≡ member x (latest numbers a (a - a))
-unfolding latest anyOf
-contains-none numbers x a = let none : a - a ≡ 0 = omega arith in rw none
+-- a number is among them, one of either half after the other
+or-turn : (p q b c : Bool) → ((p || q) || (b || c)) ≡ ((q || b) || (p || c))
+or-turn true true b c = refl
+or-turn true false true c = refl
+or-turn true false false c = refl
+or-turn false q b c = sym (or-assoc q b c)
 
-pub contains-next :
-    (numbers : List ℕ) (x a i : ℕ) (found : Bool) → found ≡ member x (latest numbers a (i - a)) → a ≤ i →
-    eqb x (getD numbers i 0) || found ≡ member x (latest numbers a (i + 1 - a))
-unfolding latest anyOf
-contains-next numbers x a i found h le =
-    let more : i + 1 - a ≡ suc (i - a) = omega arith in
-    let back : a + (i - a) ≡ i = omega arith in
-    rw (more, back, h)
+module _ (numbers : List ℕ) (x a : ℕ) where
+  -- m of them, and n behind those
+  contains-both :
+      (m n : ℕ) → (member x (latest numbers (a + m) n) || member x (latest numbers a m)) ≡ member x (latest numbers a (m + n))
+  unfolding latest anyOf
+  contains-both m zero = let none : m + 0 ≡ m = omega arith in rw none
+  contains-both m (suc n) =
+      let more : m + suc n ≡ suc (m + n) = omega arith in
+      let place : a + m + n ≡ a + (m + n) = omega arith in
+      rw (more, place) (or-assoc (eqb x (getD numbers (a + (m + n)) 0)) (member x (latest numbers (a + m) n)) (member x (latest numbers a m)) ∙ ap (λ b. eqb x (getD numbers (a + (m + n)) 0) || b) (contains-both m n))
 
-pub contains-all :
-    (numbers : List ℕ) (x a i e : ℕ) (found : Bool) → found ≡ member x (latest numbers a (i - a)) → i ≤ e → e ≤ i →
-    found ≡ member x (latest numbers a (e - a))
-contains-all numbers x a i e found h le ge =
-    let same : i ≡ e = omega arith in h ∙ ap (λ n. member x (latest numbers a (n - a))) same
+  abbrev pub InHalves : ℕ → Bool → ℕ → Type 0
+  InHalves middle found i = found ≡ (member x (latest numbers middle i) || member x (latest numbers a i))
+
+  pub halves-none : (middle : ℕ) → InHalves middle false 0
+  unfolding latest anyOf
+  halves-none middle = refl
+
+  pub halves-next :
+      (middle i : ℕ) (found : Bool) → InHalves middle found i →
+      InHalves middle ((eqb x (getD numbers (a + i) 0) || eqb x (getD numbers (middle + i) 0)) || found) (i + 1)
+  unfolding latest anyOf
+  halves-next middle i found h = rw (add-one, h)
+      (or-turn (eqb x (getD numbers (a + i) 0)) (eqb x (getD numbers (middle + i) 0)) (member x (latest numbers middle i)) (member x (latest numbers a i)))
+
+  pub halves-even :
+      (half i e : ℕ) (found : Bool) → InHalves (a + half) found i → i ≤ half → half ≤ i → e - a ≡ half + half → found ≡ member x (latest numbers a (e - a))
+  halves-even half i e found h le ge size =
+      let same : i ≡ half = omega arith in
+      rw size (h ∙ ap (λ n. member x (latest numbers (a + half) n) || member x (latest numbers a n)) same ∙ contains-both half half)
+
+  pub halves-odd :
+      (half i e : ℕ) (found : Bool) → InHalves (a + half) found i → i ≤ half → half ≤ i → e - a ≡ suc (half + half) →
+      (eqb x (getD numbers (e - 1) 0) || found) ≡ member x (latest numbers a (e - a))
+  unfolding latest anyOf
+  halves-odd half i e found h le ge size =
+      let same : i ≡ half = omega arith in
+      let last : e - 1 ≡ a + (half + half) = omega arith in
+      rw (size, last)
+      (ap (λ b. eqb x (getD numbers (a + (half + half)) 0) || b)
+      (h ∙ ap (λ n. member x (latest numbers (a + half) n) || member x (latest numbers a n)) same ∙ contains-both half half))
 
 -- none has its mark yet
 pub marked-none : (numbers marks : List ℕ) → Marked numbers marks 0
@@ -85,12 +114,12 @@ marked-store numbers marks n v room size all j h z = go (ℕ-discrete j n)
         (kept (getD numbers j 0 % 1021) (ℕ-discrete (getD numbers j 0 % 1021) (v % 1021)) (rw (getD-set-other numbers n j v 0 differ) at z))
 
 -- a number whose mark is 0 was not met
-module _ (numbers marks : List ℕ) (x a e p m : ℕ) (hp : p ≡ x % 1021) (hm : m ≡ getD marks p 0) (z : m ≡ 0) (all : Marked numbers marks e) where
+module _ (numbers marks : List ℕ) (x a e p : ℕ) (hp : p ≡ x % 1021) (z : getD marks p 0 ≡ 0) (all : Marked numbers marks e) where
   unmarked-among : (n : ℕ) → a + n ≤ e → false ≡ member x (latest numbers a n)
   unfolding latest anyOf Marked
   unmarked-among zero le = refl
   unmarked-among (suc n) le =
-      rw (ne-eqb x (getD numbers (a + n) 0) (λ same. all (a + n) (omega arith) (ap (λ v. getD marks (v % 1021) 0) (sym same) ∙ ap (λ q. getD marks q 0) (sym hp) ∙ sym hm ∙ z)))
+      rw (ne-eqb x (getD numbers (a + n) 0) (λ same. all (a + n) (omega arith) (ap (λ v. getD marks (v % 1021) 0) (sym same) ∙ ap (λ q. getD marks q 0) (sym hp) ∙ z)))
       (unmarked-among n (omega arith))
 
   pub unmarked : a ≤ e → false ≡ member x (latest numbers a (e - a))

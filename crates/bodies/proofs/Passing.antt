@@ -4,18 +4,20 @@ use native.Mathlib.Omega.{arith}
 use mathlib.Core.Path.{_≡_, refl, sym, ap, _∙_}
 use mathlib.Core.Bool.{Bool, true, false}
 use mathlib.Core.List.{List, [], _∷_, _++_, map}
-use lib.ListN.{length, set, length-set}
-use lib.Dec.{eqb}
+use lib.ListN.{length, getD, set, length-set}
+use lib.Dec.{leb, eqb}
 use borrow.Author.Tests.{eqb-true}
 use Rattle.rules.specs.declared.span.Span.{Span}
 use Rattle.rules.specs.Words.{onlyIf, member, select}
-use Rattle.rules.specs.Record.{Rec, is, valueIn, recordBytes}
+use Rattle.rules.specs.Record.{Rec, is}
+use Rattle.rules.specs.Refusals.{maxOrdinal}
+use Rattle.rules.proofs.Joined.{length-select}
 use Rattle.names.specs.View.{viewAt, viewFrom, viewOf}
 use Rattle.types.proofs.Views.{view-cons}
-use Rattle.bodies.specs.declared.seen.Seen.{Seen}
-use Rattle.bodies.specs.Seen.{latest, Marked}
-use Rattle.bodies.specs.Earlier.{valuesOf, earlier}
-use Rattle.bodies.proofs.Marks.{latest-above, latest-store, length-latest, marked-fewer, marked-store}
+use Rattle.bodies.specs.Seen.{latest, narrow, Marked, Known, ToMeet, MetAt}
+use Rattle.bodies.specs.Earlier.{valuesOf, earlier, valuesBefore}
+use Rattle.bodies.proofs.Marks.{latest-above, latest-store, length-latest, marked-fewer, marked-store, unmarked}
+use Rattle.bodies.proofs.Narrow.{narrow-kept, narrow-out, narrow-member}
 
 -- the records of a kind before the next record
 pub earlier-next :
@@ -71,39 +73,30 @@ module _ (kind tomb : ℕ) (sheet : List ℕ) (a e : ℕ) where
   abbrev pub before : ℕ → List (Rec ℕ Span)
   before i = earlier kind sheet a (i - a)
 
-  -- the numbers met are the ordinals of all tombstones, and then those of the items before record i; they have their marks, and there is room for
-  -- those still to come
-  abbrev pub Known : ℕ → Seen → List ℕ → ℕ → Type 0
-  Known tombstones seen marks i =
-      (length (seen .ordinals) ≡ 1024)
-      × (length marks ≡ 1021)
-      × (a ≤ i)
-      × (tombstones ≤ seen .len)
-      × (seen .len + length (select (is kind) (viewOf sheet i e)) ≤ 1024)
-      × (latest (seen .ordinals) 0 tombstones ≡ gone)
-      × (latest (seen .ordinals) tombstones (seen .len - tombstones) ≡ values (before i))
-      × Marked (seen .ordinals) marks (seen .len)
-
+  -- the start of the list
   pub known-start :
-      (numbers marks : List ℕ) (n : ℕ) → (tomb ≡ kind → ⊥) → e ≤ 1024 → length numbers ≡ 1024 → length marks ≡ 1021 → latest numbers 0 n ≡ gone →
-      Marked numbers marks n → Known n (record { ordinals = numbers; len = n }) marks a
-  unfolding earlier latest
+      (numbers marks : List ℕ) (n : ℕ) → (tomb ≡ kind → ⊥) → e ≤ 1024 → length numbers ≡ 1024 → length marks ≡ 1021 → latest numbers 0 n ≡ narrow gone →
+      Marked numbers marks n → Known kind tomb sheet a e n numbers marks n a
+  unfolding earlier latest select
   known-start numbers marks n ne small size₁ size₂ h m =
       let none : a - a ≡ 0 = omega arith in
       let fresh : n - n ≡ 0 = omega arith in
-      let count : n ≡ length gone = sym (length-latest numbers 0 n) ∙ ap length h in (
+      let count : n ≡ length (narrow gone) = sym (length-latest numbers 0 n) ∙ ap length h in (
         size₁,
         size₂,
         omega arith,
         omega arith,
-        omega (arith, two-kinds tomb kind ne (viewOf sheet a e), length-view sheet a (e - a), count),
+        omega (arith, two-kinds tomb kind ne (viewOf sheet a e), length-view sheet a (e - a), count, length-select (λ n. leb n maxOrdinal) gone),
         h,
         rw (none, fresh),
         m,
       )
 
-  module _ (tombstones : ℕ) (seen : Seen) (marks : List ℕ) (i : ℕ) (k : Known tombstones seen marks i) where
-    pub known-other : i < e → is kind (viewAt sheet i) ≡ false → Known tombstones seen marks (i + 1)
+  module _ (tombstones : ℕ) (numbers marks : List ℕ) (len i : ℕ) (k : Known kind tomb sheet a e tombstones numbers marks len i) where
+    values-next : (b : Bool) → is kind (viewAt sheet i) ≡ b → values (onlyIf b (viewAt sheet i ∷ []) ++ before i) ≡ valuesBefore kind sheet a (i + 1)
+    values-next b t = ap values (sym (earlier-next kind sheet a i (k .2) ∙ ap (λ b. onlyIf b (viewAt sheet i ∷ []) ++ before i) t))
+
+    pub known-other : i < e → is kind (viewAt sheet i) ≡ false → Known kind tomb sheet a e tombstones numbers marks len (i + 1)
     known-other h t = (
       k .0,
       k .1,
@@ -111,46 +104,82 @@ module _ (kind tomb : ℕ) (sheet : List ℕ) (a e : ℕ) where
       k .3,
       omega (arith, k .4, left-other kind sheet i e h t),
       k .5,
-      k .6 ∙ ap values (sym (earlier-next kind sheet a i (k .2) ∙ ap (λ b. onlyIf b (viewAt sheet i ∷ []) ++ before i) t)),
+      k .6 ∙ ap narrow (values-next false t),
       k .7,
     )
 
-    pub known-room : i < e → is kind (viewAt sheet i) ≡ true → seen .len < 1024
-    known-room h t = omega (arith, k .4, left-member kind sheet i e h t)
+  module _ (tombstones : ℕ) (numbers marks : List ℕ) (len i v : ℕ) (m : ToMeet kind tomb sheet a e tombstones numbers marks len i v) where
+    -- there is room for one number more
+    pub met-room : len < 1024
+    met-room = omega (arith, m .3 .4, left-member kind sheet i e (m .0) (m .1))
 
-    pub known-member :
-        (v : ℕ) → i < e → is kind (viewAt sheet i) ≡ true → v ≡ valueIn (recordBytes sheet i) →
-        Known tombstones (record { ordinals = set (seen .ordinals) (seen .len) v; len = seen .len + 1 }) (set marks (v % 1021) 1) (i + 1)
+    next : v ∷ values (before i) ≡ valuesBefore kind sheet a (i + 1)
     unfolding viewAt
-    known-member v h t hv =
-        let room : seen .len < length (seen .ordinals) = omega (arith, k .0, known-room h t) in
-        let more : seen .len + 1 - tombstones ≡ seen .len - tombstones + 1 = omega (arith, k .3) in (
-          length-set (seen .ordinals) (seen .len) v ∙ k .0,
+    next = ap (λ x. x ∷ values (before i)) (m .2) ∙ values-next tombstones numbers marks len i (m .3) true (m .1)
+
+    -- a number that row 5 does not let through
+    pub met-out :
+        (tombstoned met : Bool) → 4294967295 < v → tombstoned ≡ member v gone → met ≡ member v (values (before i)) →
+        MetAt kind tomb sheet a e tombstones numbers marks i v (record { tombstoned = tombstoned; met = met; len = len })
+    met-out tombstoned met wide ht hm =
+        let k = m .3 in (
+          ht,
+          hm,
+          (
+            k .0,
+            k .1,
+            omega (arith, k .2),
+            k .3,
+            omega (arith, k .4, left-member kind sheet i e (m .0) (m .1)),
+            k .5,
+            k .6 ∙ sym (narrow-out v (values (before i)) wide) ∙ ap narrow next,
+            k .7,
+          ),
+        )
+
+    -- and one that it does
+    known-kept : v ≤ 4294967295 → Known kind tomb sheet a e tombstones (set numbers len v) (set marks (v % 1021) 1) (len + 1) (i + 1)
+    known-kept small =
+        let k = m .3 in
+        let room : len < length numbers = omega (arith, k .0, met-room) in
+        let more : len + 1 - tombstones ≡ len - tombstones + 1 = omega (arith, k .3) in (
+          length-set numbers len v ∙ k .0,
           length-set marks (v % 1021) 1 ∙ k .1,
           omega (arith, k .2),
           omega (arith, k .3),
-          omega (arith, k .4, left-member kind sheet i e h t),
-          latest-above (seen .ordinals) (seen .len) v 0 tombstones (omega (arith, k .3)) ∙ k .5,
-          ap (latest (set (seen .ordinals) (seen .len) v) tombstones) more
-              ∙ latest-store (seen .ordinals) tombstones (seen .len - tombstones) (seen .len) v (omega (arith, k .3)) room
+          omega (arith, k .4, left-member kind sheet i e (m .0) (m .1)),
+          latest-above numbers len v 0 tombstones (omega (arith, k .3)) ∙ k .5,
+          ap (latest (set numbers len v) tombstones) more
+              ∙ latest-store numbers tombstones (len - tombstones) len v (omega (arith, k .3)) room
               ∙ ap (λ xs. v ∷ xs) (k .6)
-              ∙ ap (λ x. x ∷ values (before i)) hv
-              ∙ ap values (sym (earlier-next kind sheet a i (k .2) ∙ ap (λ b. onlyIf b (viewAt sheet i ∷ []) ++ before i) t)),
-          marked-store (seen .ordinals) marks (seen .len) v room (k .1) (k .7),
+              ∙ sym (narrow-kept v (values (before i)) small)
+              ∙ ap narrow next,
+          marked-store numbers marks len v room (k .1) (k .7),
         )
 
-    -- the numbers of the tombstones have their marks, and so have those of the items
-    pub known-first : (0 ≤ tombstones) × (tombstones ≤ 1024) × Marked (seen .ordinals) marks tombstones
-    known-first = (omega arith, omega (arith, k .3, k .4), marked-fewer (seen .ordinals) marks tombstones (seen .len) (k .3) (k .7))
+    module _ (n p : ℕ) (small : v ≤ 4294967295) (hn : n ≡ v) (hp : p ≡ n % 1021) where
+      pub met-kept :
+          (tombstoned met : Bool) → tombstoned ≡ member n (latest numbers 0 (tombstones - 0)) →
+          met ≡ member n (latest numbers tombstones (len - tombstones)) →
+          MetAt kind tomb sheet a e tombstones (set numbers len n) (set marks p 1) i v (record { tombstoned = tombstoned; met = met; len = len + 1 })
+      met-kept tombstoned met ht hm =
+          let whole : tombstones - 0 ≡ tombstones = omega arith in (
+            ht
+                ∙ ap (λ x. member x (latest numbers 0 (tombstones - 0))) hn
+                ∙ ap (λ l. member v (latest numbers 0 l)) whole
+                ∙ ap (member v) (m .3 .5)
+                ∙ narrow-member v gone small,
+            hm
+                ∙ ap (λ x. member x (latest numbers tombstones (len - tombstones))) hn
+                ∙ ap (member v) (m .3 .6)
+                ∙ narrow-member v (values (before i)) small,
+            rw (hp, hn) (known-kept small),
+          )
 
-    pub known-last : (tombstones ≤ seen .len) × (seen .len ≤ 1024) × Marked (seen .ordinals) marks (seen .len)
-    known-last = (k .3, omega (arith, k .4), k .7)
-
-    -- what the numbers say
-    pub known-gone : (v : ℕ) (tombstoned : Bool) → tombstoned ≡ member v (latest (seen .ordinals) 0 (tombstones - 0)) → tombstoned ≡ member v gone
-    known-gone v tombstoned h =
-        let whole : tombstones - 0 ≡ tombstones = omega arith in h ∙ ap (λ n. member v (latest (seen .ordinals) 0 n)) whole ∙ ap (member v) (k .5)
-
-    pub known-met :
-        (v : ℕ) (met : Bool) → met ≡ member v (latest (seen .ordinals) tombstones (seen .len - tombstones)) → met ≡ member v (values (before i))
-    known-met v met h = h ∙ ap (member v) (k .6)
+      -- whose mark is 0
+      pub met-new :
+          getD marks p 0 ≡ 0 → MetAt kind tomb sheet a e tombstones (set numbers len n) (set marks p 1) i v (record { tombstoned = false; met = false; len = len + 1 })
+      met-new z =
+          met-kept false false
+          (unmarked numbers marks n 0 tombstones p hp z (marked-fewer numbers marks tombstones len (m .3 .3) (m .3 .7)) (omega arith))
+          (unmarked numbers marks n tombstones len p hp z (m .3 .7) (m .3 .3))

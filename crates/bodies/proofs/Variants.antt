@@ -1,10 +1,10 @@
 -- The variants of an enum or a union: what is known before each record, and what is still to add.
-use Prim.Native.Nat.{ℕ, zero, suc, _+_, _-_, _%_, _≤_, _<_}
+use Prim.Native.Nat.{ℕ, zero, suc, _+_, _-_, _≤_, _<_}
 use native.Mathlib.Omega.{arith}
 use mathlib.Core.Path.{_≡_, refl, sym, ap, ap₂, _∙_}
 use mathlib.Core.Bool.{Bool, true, false, not, _&&_}
 use mathlib.Core.List.{List, [], _++_, append-nil, flatMap}
-use lib.ListN.{length, set}
+use lib.ListN.{length}
 use borrow.Author.Tests.{eqb-true, not-true}
 use Rattle.rules.specs.declared.span.Span.{Span}
 use Rattle.rules.specs.Words.{onlyIf, anyOf, member, front, Item, items}
@@ -20,7 +20,8 @@ use Rattle.diagnostic.specs.Push.{State, pushFound}
 use Rattle.diagnostic.proofs.FoundPushes.{found-none, found-then}
 use Rattle.annotations.proofs.FoundSteps.{found-step}
 use Rattle.bodies.specs.declared.seen.Seen.{Seen}
-use Rattle.bodies.specs.Seen.{latest, Marked}
+use Rattle.bodies.specs.declared.seen.Meeting.{Meeting}
+use Rattle.bodies.specs.Seen.{latest, narrow, Marked, Known, MetAt}
 use Rattle.bodies.specs.Earlier.{valuesOf, earlier}
 use Rattle.bodies.specs.declared.runs.Run.the-variants as Run
 use Rattle.bodies.specs.Runs.{inRun, EndsAt, AllIn}
@@ -28,7 +29,7 @@ use Rattle.bodies.specs.Items.{variantFound}
 use Rattle.bodies.specs.Ordinal.{pushOrdinal, memberFound}
 use Rattle.bodies.proofs.BodyItems.{item-member}
 use Rattle.bodies.proofs.Ordinals.{union-members}
-use Rattle.bodies.proofs.Passing.{values, gone, before, Known, known-start, known-other, known-room, known-member, known-gone, known-met}
+use Rattle.bodies.proofs.Passing.{values, gone, before, known-start, known-other}
 use Rattle.bodies.proofs.Turns.{namesOf, kind-is, kind-not, left, itemAt, turn-member, turn-other, turn-inner, turn-none}
 use Rattle.bodies.proofs.Retired.{retired-items}
 use Rattle.bodies.proofs.FieldTurns.{member-tests}
@@ -66,7 +67,7 @@ module _
     VariantsKnown tombstones seen marks s₀ s i =
         (length (s .0) ≡ length (s₀ .0))
         × (i ≤ e)
-        × Known 14 15 sheet a e tombstones seen marks i
+        × Known 14 15 sheet a e tombstones (seen .ordinals) marks (seen .len) i
         × (pushFound (still i) s ≡ pushFound (listViolations ctx scheme own (bodyItems (viewOf sheet a e))) s₀)
 
     variants-start : still a ≡ listViolations ctx scheme own (bodyItems (viewOf sheet a e))
@@ -80,7 +81,7 @@ module _
         (length ordinals ≡ 1024)
         × (length marks ≡ 1021)
         × (tombstones ≤ e - a)
-        × (latest ordinals 0 tombstones ≡ valuesOf 15 (viewOf sheet a e))
+        × (latest ordinals 0 tombstones ≡ narrow (valuesOf 15 (viewOf sheet a e)))
         × Marked ordinals marks tombstones →
         VariantsKnown tombstones (record { ordinals = ordinals; len = tombstones }) marks s s a
     variants-none tombstones ordinals marks s le small c = (
@@ -105,7 +106,7 @@ module _
     variants-next tombstones seen marks s₀ s i known h test = (
       known .0,
       omega arith,
-      known-other 14 15 sheet a e tombstones seen marks i (known .2) h test,
+      known-other 14 15 sheet a e tombstones (seen .ordinals) marks (seen .len) i (known .2) h test,
       ap (λ fs. pushFound fs s) (sym (other-left i (known .2 .2) h test)) ∙ known .3,
     )
 
@@ -137,39 +138,29 @@ module _
 
     -- a variant
     pub variants-variant :
-        (tombstones : ℕ) (seen : Seen) (marks : List ℕ) (s₀ s t : State) (i k ordinal p : ℕ) (tombstoned met : Bool) →
+        (tombstones : ℕ) (seen : Seen) (marks ordinals' marks' : List ℕ) (s₀ s t : State) (i k ordinal : ℕ) (m : Meeting) →
         VariantsKnown tombstones seen marks s₀ s i → i < e → k ≡ kindIn (recordBytes sheet i) → k ≡ 14 →
-        ordinal ≡ valueIn (recordBytes sheet i) → tombstoned ≡ member ordinal (latest (seen .ordinals) 0 (tombstones - 0)) →
-        met ≡ member ordinal (latest (seen .ordinals) tombstones (seen .len - tombstones)) → p ≡ ordinal % 1021 →
-        length (t .0) ≡ length (s .0) →
-        t ≡ pushFound (memberFound scheme tombstoned met false (at i) ++ own (itemAt ctx scheme own startsItem 14 sheet a e tombs i)) s →
-        VariantsKnown tombstones (record { ordinals = set (seen .ordinals) (seen .len) ordinal; len = seen .len + 1 }) (set marks p 1) s₀ t (i + 1)
+        ordinal ≡ valueIn (recordBytes sheet i) → MetAt 14 15 sheet a e tombstones ordinals' marks' i ordinal m → length (t .0) ≡ length (s .0) →
+        t ≡ pushFound (memberFound scheme (m .tombstoned) (m .met) false (at i) ++ own (itemAt ctx scheme own startsItem 14 sheet a e tombs i)) s →
+        VariantsKnown tombstones (record { ordinals = ordinals'; len = m .len }) marks' s₀ t (i + 1)
     unfolding viewAt
-    variants-variant tombstones seen marks s₀ s t i k ordinal p tombstoned met known h hk eq ho ht hm hp size hs =
+    variants-variant tombstones seen marks ordinals' marks' s₀ s t i k ordinal m known h hk eq ho hm size hs =
         let test : is Kind.Variant (at i) ≡ true = kind-is sheet i k 14 hk eq in
         let again : Bool = anyOf (ctx .same (at i .name)) (namesOf (variants i)) in
-        let dead : tombstoned ≡ member (valueIn (recordBytes sheet i)) tombs =
-        known-gone 14 15 sheet a e tombstones seen marks i (known .2) ordinal tombstoned ht ∙ ap (λ v. member v tombs) ho in (
+        let dead : m .tombstoned ≡ member (valueIn (recordBytes sheet i)) tombs = hm .0 ∙ ap (λ v. member v tombs) ho in (
           size ∙ known .0,
           omega arith,
-          rw hp (known-member 14 15 sheet a e tombstones seen marks i (known .2) ordinal h test ho),
+          hm .2,
           found-step _ _ _ s t _
               (turn-member ctx scheme own startsItem 14 sheet a e tombs i (known .2 .2) h (variant-starts (at i) test) (variant-member (at i) test) test
               ∙ ap (λ fs. fs ++ own (itemAt ctx scheme own startsItem 14 sheet a e tombs i) ++ still (i + 1))
-              (sym (names-free tombstoned met false again (at i)
-              ∙ member-tests ctx scheme tombs (values (variants i)) (namesOf (variants i)) (at i) tombstoned met again dead
+              (sym (names-free (m .tombstoned) (m .met) false again (at i)
+              ∙ member-tests ctx scheme tombs (values (variants i)) (namesOf (variants i)) (at i) (m .tombstoned) (m .met) again dead
               (ap₂ (λ g m. not g && m) dead
-              (known-met 14 15 sheet a e tombstones seen marks i (known .2) ordinal met hm ∙ ap (λ v. member v (values (variants i))) ho))
+              (hm .1 ∙ ap (λ v. member v (values (variants i))) ho))
               refl)))
               hs (known .3),
         )
-
-    -- there is room for one variant more
-    pub variants-room :
-        (tombstones : ℕ) (seen : Seen) (marks : List ℕ) (s₀ s : State) (i k : ℕ) → VariantsKnown tombstones seen marks s₀ s i → i < e →
-        k ≡ kindIn (recordBytes sheet i) → k ≡ 14 → seen .len < 1024
-    variants-room tombstones seen marks s₀ s i k known h hk eq =
-        known-room 14 15 sheet a e tombstones seen marks i (known .2) h (kind-is sheet i k 14 hk eq)
 
     pub variants-end :
         (tombstones : ℕ) (seen : Seen) (marks : List ℕ) (s₀ s : State) (i : ℕ) → VariantsKnown tombstones seen marks s₀ s i → e ≤ i →
@@ -198,7 +189,7 @@ module _ (table sheet : List ℕ) (a e : ℕ) where
       (length ordinals ≡ 1024)
       × (length marks ≡ 1021)
       × (tombstones ≤ e - a)
-      × (latest ordinals 0 tombstones ≡ valuesOf 15 (viewOf sheet a e))
+      × (latest ordinals 0 tombstones ≡ narrow (valuesOf 15 (viewOf sheet a e)))
       × Marked ordinals marks tombstones →
       EnumKnown tombstones (record { ordinals = ordinals; len = tombstones }) marks s s a
   enum-none = variants-none ctx enumScheme refl enumOwn enumNothing sheet a e
@@ -208,21 +199,15 @@ module _ (table sheet : List ℕ) (a e : ℕ) where
       k ≡ kindIn (recordBytes sheet i) → (k ≡ 14 → ⊥) → EnumKnown tombstones seen marks s₀ s (i + 1)
   enum-other = variants-other ctx enumScheme refl enumOwn enumNothing sheet a e
 
-  pub enum-room :
-      (tombstones : ℕ) (seen : Seen) (marks : List ℕ) (s₀ s : State) (i k : ℕ) → EnumKnown tombstones seen marks s₀ s i → i < e →
-      k ≡ kindIn (recordBytes sheet i) → k ≡ 14 → seen .len < 1024
-  enum-room = variants-room ctx enumScheme refl enumOwn enumNothing sheet a e
-
   pub enum-variant :
-      (tombstones : ℕ) (seen : Seen) (marks : List ℕ) (s₀ s t : State) (i k ordinal p : ℕ) (tombstoned met : Bool) →
+      (tombstones : ℕ) (seen : Seen) (marks ordinals' marks' : List ℕ) (s₀ s t : State) (i k ordinal : ℕ) (m : Meeting) →
       EnumKnown tombstones seen marks s₀ s i → i < e → k ≡ kindIn (recordBytes sheet i) → k ≡ 14 →
-      ordinal ≡ valueIn (recordBytes sheet i) → tombstoned ≡ member ordinal (latest (seen .ordinals) 0 (tombstones - 0)) →
-      met ≡ member ordinal (latest (seen .ordinals) tombstones (seen .len - tombstones)) → p ≡ ordinal % 1021 →
-      length (t .0) ≡ length (s .0) → t ≡ pushFound (memberFound enumScheme tombstoned met false (viewAt sheet i)) s →
-      EnumKnown tombstones (record { ordinals = set (seen .ordinals) (seen .len) ordinal; len = seen .len + 1 }) (set marks p 1) s₀ t (i + 1)
-  enum-variant tombstones seen marks s₀ s t i k ordinal p tombstoned met known h hk eq ho ht hm hp size hs =
-      variants-variant ctx enumScheme refl enumOwn enumNothing sheet a e tombstones seen marks s₀ s t i k ordinal p tombstoned met known h hk eq ho ht hm hp size
-      (hs ∙ ap (λ fs. pushFound fs s) (sym (append-nil (memberFound enumScheme tombstoned met false (viewAt sheet i)))))
+      ordinal ≡ valueIn (recordBytes sheet i) → MetAt 14 15 sheet a e tombstones ordinals' marks' i ordinal m →
+      length (t .0) ≡ length (s .0) → t ≡ pushFound (memberFound enumScheme (m .tombstoned) (m .met) false (viewAt sheet i)) s →
+      EnumKnown tombstones (record { ordinals = ordinals'; len = m .len }) marks' s₀ t (i + 1)
+  enum-variant tombstones seen marks ordinals' marks' s₀ s t i k ordinal m known h hk eq ho hm size hs =
+      variants-variant ctx enumScheme refl enumOwn enumNothing sheet a e tombstones seen marks ordinals' marks' s₀ s t i k ordinal m known h hk eq ho hm size
+      (hs ∙ ap (λ fs. pushFound fs s) (sym (append-nil (memberFound enumScheme (m .tombstoned) (m .met) false (viewAt sheet i)))))
 
   pub enum-end :
       (tombstones : ℕ) (seen : Seen) (marks : List ℕ) (s₀ s : State) (i : ℕ) → EnumKnown tombstones seen marks s₀ s i → e ≤ i →
@@ -244,7 +229,7 @@ module _ (table sheet : List ℕ) (a e : ℕ) where
       (length ordinals ≡ 1024)
       × (length marks ≡ 1021)
       × (tombstones ≤ e - a)
-      × (latest ordinals 0 tombstones ≡ valuesOf 15 (viewOf sheet a e))
+      × (latest ordinals 0 tombstones ≡ narrow (valuesOf 15 (viewOf sheet a e)))
       × Marked ordinals marks tombstones →
       UnionKnown tombstones (record { ordinals = ordinals; len = tombstones }) marks s s a
   union-none = variants-none ctx unionScheme refl unionOwn unionNothing sheet a e
@@ -262,30 +247,23 @@ module _ (table sheet : List ℕ) (a e : ℕ) where
   unfolding variantFound
   variant-found i end tombstoned met s t u ht hu = found-then _ _ s t u (union-members sheet i tombstoned met s t ht) hu
 
-  pub union-room :
-      (tombstones : ℕ) (seen : Seen) (marks : List ℕ) (s₀ s : State) (i k : ℕ) → UnionKnown tombstones seen marks s₀ s i → i < e →
-      k ≡ kindIn (recordBytes sheet i) → k ≡ 14 → seen .len < 1024
-  union-room = variants-room ctx unionScheme refl unionOwn unionNothing sheet a e
-
   pub union-variant :
-      (tombstones : ℕ) (seen : Seen) (marks : List ℕ) (s₀ s t : State) (i k ordinal p end : ℕ) (tombstoned met : Bool) →
+      (tombstones : ℕ) (seen : Seen) (marks ordinals' marks' : List ℕ) (s₀ s t : State) (i k ordinal end : ℕ) (m : Meeting) →
       UnionKnown tombstones seen marks s₀ s i → i < e → k ≡ kindIn (recordBytes sheet i) → k ≡ 14 →
-      ordinal ≡ valueIn (recordBytes sheet i) → tombstoned ≡ member ordinal (latest (seen .ordinals) 0 (tombstones - 0)) →
-      met ≡ member ordinal (latest (seen .ordinals) tombstones (seen .len - tombstones)) → p ≡ ordinal % 1021 →
+      ordinal ≡ valueIn (recordBytes sheet i) → MetAt 14 15 sheet a e tombstones ordinals' marks' i ordinal m →
       EndsAt (inRun Run.Item) sheet (i + 1) e end × (end ≤ e) × (i + 1 ≤ e → i + 1 ≤ end) × AllIn (inRun Run.Item) sheet (i + 1) end →
-      length (t .0) ≡ length (s .0) → t ≡ pushFound (variantFound table sheet i end tombstoned met) s →
-      UnionKnown tombstones (record { ordinals = set (seen .ordinals) (seen .len) ordinal; len = seen .len + 1 }) (set marks p 1) s₀ t end
+      length (t .0) ≡ length (s .0) → t ≡ pushFound (variantFound table sheet i end (m .tombstoned) (m .met)) s →
+      UnionKnown tombstones (record { ordinals = ordinals'; len = m .len }) marks' s₀ t end
   unfolding variantFound EndsAt
-  union-variant tombstones seen marks s₀ s t i k ordinal p end tombstoned met known h hk eq ho ht hm hp ends size hs =
+  union-variant tombstones seen marks ordinals' marks' s₀ s t i k ordinal end m known h hk eq ho hm ends size hs =
       let behind : i + 1 ≤ end = ends .2 (omega arith) in
       let last : i + 1 + (end - (i + 1)) ≡ end = omega arith in
       rw last at
-      (variants-parts ctx unionScheme refl unionOwn unionNothing sheet a e tombstones
-      (record { ordinals = set (seen .ordinals) (seen .len) ordinal; len = seen .len + 1 }) (set marks p 1) s₀ t (i + 1) (end - (i + 1))
-      (variants-variant ctx unionScheme refl unionOwn unionNothing sheet a e tombstones seen marks s₀ s t i k ordinal p tombstoned met known h hk eq ho ht hm hp size
+      (variants-parts ctx unionScheme refl unionOwn unionNothing sheet a e tombstones (record { ordinals = ordinals'; len = m .len }) marks' s₀ t (i + 1) (end - (i + 1))
+      (variants-variant ctx unionScheme refl unionOwn unionNothing sheet a e tombstones seen marks ordinals' marks' s₀ s t i k ordinal m known h hk eq ho hm size
       (hs
-      ∙ ap (λ rs. pushFound (memberFound unionScheme tombstoned met false (viewAt sheet i) ++ fieldListViolations ctx rs) s) (ends .0 .0)
-      ∙ ap (λ b. pushFound (memberFound unionScheme tombstoned met false (viewAt sheet i)
+      ∙ ap (λ rs. pushFound (memberFound unionScheme (m .tombstoned) (m .met) false (viewAt sheet i) ++ fieldListViolations ctx rs) s) (ends .0 .0)
+      ∙ ap (λ b. pushFound (memberFound unionScheme (m .tombstoned) (m .met) false (viewAt sheet i)
       ++ onlyIf b (fieldListViolations ctx (front (λ r. not (startsItem r)) (viewOf sheet (i + 1) e)))) s)
       (sym (kind-is sheet i k 14 hk eq))))
       (omega (arith, ends .1)) (rw (sym last) at (ends .3)))

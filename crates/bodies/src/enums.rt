@@ -16,8 +16,7 @@ use crate::ordinal::OrdinalRules;
 use crate::ordinal::check_ordinal;
 use crate::seen::Seen;
 use crate::seen::collect;
-use crate::seen::is_met;
-use crate::seen::mark;
+use crate::seen::meet;
 use rules::Counts;
 use rules::Sheet;
 use rules::Violation;
@@ -80,12 +79,29 @@ fn check_variants(
         }
         let ordinal = sheet::value(sheet, i);
         let at = seen.len;
-        let tombstoned = is_met(&seen.ordinals, &marks, 0, tombstones, ordinal);
-        let met = is_met(&seen.ordinals, &marks, tombstones, at, ordinal);
-        seen.ordinals[at] = ordinal;
-        seen.len = at + 1;
-        marks[mark(ordinal)] = 1;
-        counts = check_variant(sheet, list, counts, i, ordinal, tombstoned, met);
+        let meeting = meet(
+            sheet,
+            &mut seen.ordinals,
+            &mut marks,
+            kinds::VARIANT,
+            kinds::TOMBSTONE,
+            a,
+            e,
+            i,
+            tombstones,
+            at,
+            ordinal,
+        );
+        seen.len = meeting.len;
+        counts = check_variant(
+            sheet,
+            list,
+            counts,
+            i,
+            ordinal,
+            meeting.tombstoned,
+            meeting.met,
+        );
         i += 1;
     }
     counts

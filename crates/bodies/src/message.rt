@@ -23,8 +23,7 @@ use crate::ordinal::OrdinalRules;
 use crate::ordinal::check_ordinal;
 use crate::seen::Seen;
 use crate::seen::collect;
-use crate::seen::is_met;
-use crate::seen::mark;
+use crate::seen::meet;
 use rules::Counts;
 use rules::Sheet;
 use rules::Violation;
@@ -171,11 +170,20 @@ pub fn check_message_body(
         }
         let ordinal = sheet::value(sheet, i);
         let at = seen.len;
-        let tombstoned = is_met(&seen.ordinals, &marks, 0, tombstones, ordinal);
-        let met = is_met(&seen.ordinals, &marks, tombstones, at, ordinal);
-        seen.ordinals[at] = ordinal;
-        seen.len = at + 1;
-        marks[mark(ordinal)] = 1;
+        let meeting = meet(
+            sheet,
+            &mut seen.ordinals,
+            &mut marks,
+            kinds::FIELD,
+            kinds::FIELD_TOMBSTONE,
+            a,
+            e,
+            i,
+            tombstones,
+            at,
+            ordinal,
+        );
+        seen.len = meeting.len;
         let renamed = meet_name(sheet, table, names, name_links, kinds::FIELD, a, i);
         let passed = check_field_at(
             sheet,
@@ -185,8 +193,8 @@ pub fn check_message_body(
             i,
             e,
             ordinal,
-            tombstoned,
-            met,
+            meeting.tombstoned,
+            meeting.met,
             renamed,
         );
         counts = passed.counts;

@@ -4,59 +4,77 @@ ghost use Prim.Native.Nat.{_-_, _%_, _≤_, _<_};
 ghost use lib.ListN.{length};
 ghost use Rattle.rules.specs.Words.{member};
 ghost use Rattle.names.specs.View.{viewOf};
-ghost use Rattle.bodies.specs.Earlier.{valuesOf};
-ghost use Rattle.bodies.specs.Seen.{latest, Marked};
+ghost use Rattle.bodies.specs.Earlier.{valuesOf, valuesBefore};
+ghost use Rattle.bodies.specs.Seen.{latest, narrow, Marked, ToMeet, MetAt};
+use rules::Sheet;
 
-// The numbers already met, at most 1024, with their count. Marks lie beside them: where the mark of a number is 0, the number was not met.
+// The numbers already met, at most 1024, with their count. Marks lie beside them: where the mark of a number is 0, the number was not met. A number that
+// row 5 does not let through is not kept: whether it was met is asked of the records.
 pub struct Seen {
-    pub ordinals: [u64; 1024],
+    pub ordinals: [u32; 1024],
     pub len: usize,
 }
 
 // Where the mark of a number lies. Numbers in equal steps have marks of their own, since 1021 is a prime.
-pub fn mark(ordinal: u64) -> usize
+fn mark(ordinal: u32) -> usize
     ensures { λ r. ⌜ (r ≡ ordinal % 1021) × (r < 1021) ⌝ }
 {
     (ordinal % 1021) as usize
 }
 
-// Whether the number is among those from place `a` up to place `e`.
-fn contains(ordinals: &[u64; 1024], a: usize, e: usize, ordinal: u64) -> bool
+// Whether the number is among those from place `a` up to place `e`, of which each turn asks one of either half.
+fn contains(ordinals: &[u32; 1024], a: usize, e: usize, ordinal: u32) -> bool
     requires { ⌜ (a ≤ e) × (e ≤ 1024) ⌝ }
     ensures { λ r. ⌜ r ≡ member ordinal (latest (now (ordinals .entry)) a (e - a)) ⌝ }
+{
+    let half = (e - a) / 2;
+    let middle = a + half;
+    let mut found = false;
+    let mut i = 0;
+    while i < half {
+        found = (ordinal == ordinals[a + i]) | (ordinal == ordinals[middle + i]) | found;
+        i += 1;
+    }
+    if middle + half < e {
+        return (ordinal == ordinals[e - 1]) | found;
+    }
+    found
+}
+
+// Whether a record of that kind, among records `a` up to `e`, has that number.
+fn is_among(sheet: &[u8], kind: u8, a: usize, e: usize, ordinal: u64) -> bool
+    requires { ⌜ a ≤ e ⌝ }
+    ensures { λ r. ⌜ (r ≡ member ordinal (valuesOf kind (viewOf (now (sheet .entry)) a e))) × (r ≡ member ordinal (valuesBefore kind (now (sheet .entry)) a e)) ⌝ }
 {
     let mut found = false;
     let mut i = a;
     while i < e {
-        found = (ordinal == ordinals[i]) | found;
+        found = ((sheet::kind(sheet, i) == kind) & (ordinal == sheet::value(sheet, i))) | found;
         i += 1;
     }
     found
 }
 
-// Whether the number is among those from place `a` up to place `e`, which have their marks.
-pub fn is_met(ordinals: &[u64; 1024], marks: &[u8; 1021], a: usize, e: usize, ordinal: u64) -> bool
-    requires { ⌜ (a ≤ e) × (e ≤ 1024) × Marked (now ordinals) (now marks) e ⌝ }
-    ensures { λ r. ⌜ r ≡ member ordinal (latest (now (ordinals .entry)) a (e - a)) ⌝ }
+// The number, as a number of 32 bits.
+fn short(ordinal: u64) -> u32
+    requires { ⌜ ordinal ≤ 4294967295 ⌝ }
+    ensures { λ r. ⌜ r ≡ ordinal ⌝ }
 {
-    if marks[mark(ordinal)] == 0 {
-        return false;
-    }
-    contains(ordinals, a, e, ordinal)
+    ordinal as u32
 }
 
-// Puts the ordinals of the records of a kind, among records `a` up to `e`, into the array, that of the last record first, and sets their marks. Returns
-// how many there are.
+// Puts the ordinals of the records of a kind, among records `a` up to `e`, into the array, that of the last record first, and sets their marks; those that
+// row 5 does not let through are left out. Returns how many there are.
 pub fn collect(
     sheet: &[u8],
-    ordinals: &mut [u64; 1024],
+    ordinals: &mut [u32; 1024],
     marks: &mut [u8; 1021],
     kind: u8,
     a: usize,
     e: usize,
 ) -> usize
     requires { ⌜ (length (now ordinals) ≡ 1024) × (length (now marks) ≡ 1021) × (a ≤ e) × (e ≤ 1024) ⌝ }
-    ensures { λ r. ⌜ (length (now (ordinals .exit)) ≡ 1024) × (length (now (marks .exit)) ≡ 1021) × (r ≤ e - a) × (latest (now (ordinals .exit)) 0 r ≡ valuesOf kind (viewOf (now (sheet .entry)) a e)) × Marked (now (ordinals .exit)) (now (marks .exit)) r ⌝ }
+    ensures { λ r. ⌜ (length (now (ordinals .exit)) ≡ 1024) × (length (now (marks .exit)) ≡ 1021) × (r ≤ e - a) × (latest (now (ordinals .exit)) 0 r ≡ narrow (valuesOf kind (viewOf (now (sheet .entry)) a e))) × Marked (now (ordinals .exit)) (now (marks .exit)) r ⌝ }
 {
     let mut len = 0;
     let mut i = e;
@@ -66,9 +84,127 @@ pub fn collect(
             continue;
         }
         let ordinal = sheet::value(sheet, i);
-        ordinals[len] = ordinal;
-        marks[mark(ordinal)] = 1;
+        if Sheet::MAX_ORDINAL < ordinal {
+            continue;
+        }
+        let number = short(ordinal);
+        ordinals[len] = number;
+        marks[mark(number)] = 1;
         len += 1;
     }
     len
+}
+
+// Whether a tombstone has an ordinal, whether an item before has it, and how many numbers are kept with it.
+pub struct Meeting {
+    pub tombstoned: bool,
+    pub met: bool,
+    pub len: usize,
+}
+
+// Meets the ordinal of record `i`, whatever its mark says: asks the numbers that are kept, or the records where it is not to be kept.
+fn meet_again(
+    sheet: &[u8],
+    ordinals: &mut [u32; 1024],
+    marks: &mut [u8; 1021],
+    kind: u8,
+    tombstone: u8,
+    a: usize,
+    e: usize,
+    i: usize,
+    tombstones: usize,
+    len: usize,
+    ordinal: u64,
+) -> Meeting
+    requires { ⌜ ToMeet kind tombstone (now sheet) a e tombstones (now ordinals) (now marks) len i ordinal ⌝ }
+    ensures { λ r. ⌜ MetAt kind tombstone (now (sheet .entry)) a e tombstones (now (ordinals .exit)) (now (marks .exit)) i ordinal r ⌝ }
+{
+    if Sheet::MAX_ORDINAL < ordinal {
+        let tombstoned = is_among(sheet, tombstone, a, e, ordinal);
+        let met = is_among(sheet, kind, a, i, ordinal);
+        return Meeting {
+            tombstoned,
+            met,
+            len,
+        };
+    }
+    let number = short(ordinal);
+    let tombstoned = contains(ordinals, 0, tombstones, number);
+    let met = contains(ordinals, tombstones, len, number);
+    ordinals[len] = number;
+    marks[mark(number)] = 1;
+    Meeting {
+        tombstoned,
+        met,
+        len: len + 1,
+    }
+}
+
+// Meets the ordinal of record `i`, an item of that kind in the list at records `a` up to `e`: says whether it was met, and keeps it behind those met. Most
+// have a mark of 0. The others are met by a call, which stands twice, and whose answer is taken apart: so the compiler keeps it out of the lists' loops.
+pub fn meet(
+    sheet: &[u8],
+    ordinals: &mut [u32; 1024],
+    marks: &mut [u8; 1021],
+    kind: u8,
+    tombstone: u8,
+    a: usize,
+    e: usize,
+    i: usize,
+    tombstones: usize,
+    len: usize,
+    ordinal: u64,
+) -> Meeting
+    requires { ⌜ ToMeet kind tombstone (now sheet) a e tombstones (now ordinals) (now marks) len i ordinal ⌝ }
+    ensures { λ r. ⌜ MetAt kind tombstone (now (sheet .entry)) a e tombstones (now (ordinals .exit)) (now (marks .exit)) i ordinal r ⌝ }
+{
+    if Sheet::MAX_ORDINAL < ordinal {
+        let again = meet_again(
+            sheet,
+            ordinals,
+            marks,
+            kind,
+            tombstone,
+            a,
+            e,
+            i,
+            tombstones,
+            len,
+            ordinal,
+        );
+        return Meeting {
+            tombstoned: again.tombstoned,
+            met: again.met,
+            len: again.len,
+        };
+    }
+    let number = short(ordinal);
+    let m = mark(number);
+    if marks[m] != 0 {
+        let again = meet_again(
+            sheet,
+            ordinals,
+            marks,
+            kind,
+            tombstone,
+            a,
+            e,
+            i,
+            tombstones,
+            len,
+            ordinal,
+        );
+        return Meeting {
+            tombstoned: again.tombstoned,
+            met: again.met,
+            len: again.len,
+        };
+    }
+    ordinals[len] = number;
+    marks[m] = 1;
+    Meeting {
+        tombstoned: false,
+        met: false,
+        len: len + 1,
+    }
 }

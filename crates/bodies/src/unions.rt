@@ -17,8 +17,7 @@ use crate::runs::Run;
 use crate::runs::run_end;
 use crate::seen::Seen;
 use crate::seen::collect;
-use crate::seen::is_met;
-use crate::seen::mark;
+use crate::seen::meet;
 use rules::Counts;
 use rules::Sheet;
 use rules::Violation;
@@ -126,11 +125,20 @@ pub fn check_union(
         }
         let ordinal = sheet::value(sheet, i);
         let at = seen.len;
-        let tombstoned = is_met(&seen.ordinals, &marks, 0, tombstones, ordinal);
-        let met = is_met(&seen.ordinals, &marks, tombstones, at, ordinal);
-        seen.ordinals[at] = ordinal;
-        seen.len = at + 1;
-        marks[mark(ordinal)] = 1;
+        let meeting = meet(
+            sheet,
+            &mut seen.ordinals,
+            &mut marks,
+            kinds::VARIANT,
+            kinds::TOMBSTONE,
+            a,
+            e,
+            i,
+            tombstones,
+            at,
+            ordinal,
+        );
+        seen.len = meeting.len;
         let end = run_end(sheet, Run::Item, i + 1, e);
         counts = check_variant(
             sheet,
@@ -142,8 +150,8 @@ pub fn check_union(
             i,
             end,
             ordinal,
-            tombstoned,
-            met,
+            meeting.tombstoned,
+            meeting.met,
         );
         i = end;
     }

@@ -1,9 +1,8 @@
 -- The loop's invariant: what is known before record `i`, and what is still to add.
 use Prim.Native.Nat.{_-_}
-use native.Mathlib.Omega.{arith}
 use borrow.Author.Needs.{needs}
-use Rattle.bodies.proofs.Passing.{known-first, known-last}
-use Rattle.bodies.proofs.Variants.{EnumKnown, enum-none, enum-other, enum-room, enum-variant, enum-end}
+use Rattle.bodies.proofs.Turns.{kind-is}
+use Rattle.bodies.proofs.Variants.{EnumKnown, enum-none, enum-other, enum-variant, enum-end}
 use Rattle.bodies.proofs.enums.check_variants.Statement.{statement}
 use Rattle.bodies.proofs.enums.check_variants.Tie as tie
 
@@ -27,16 +26,10 @@ check-variants-spec =
     (λ c. search needs)
     (λ c. enum-other _ _ _ _ _ _ _ _ _ _ _ (c .before .before .before .loop .inv) (c .before .before .loop-test .taken) (c .before .kind .ensures) (c .if1 .taken))
     (λ c κs. search needs)
-    (λ c κs. known-first _ _ _ _ _ _ _ _ _ (c .before .before .before .before .before .before .before .loop .inv .2))
-    (λ c κs. known-last _ _ _ _ _ _ _ _ _ (c .before .before .before .before .before .before .before .before .before .before .before .loop .inv .2))
-    (λ c. search needs)
-    (λ c. let w = c .before .before .before .before .before .before .before .before .before in enum-room _ _ _ _ _ _ _ _ _ _ _ (w .before .before .before .loop .inv) (w .before .before .loop-test .taken) (w .before .kind .ensures) (w .if1 .left))
-    (λ c. let w = c .before .before .before .before .before .before .before .before .before in omega (arith, enum-room _ _ _ _ _ _ _ _ _ _ _ (w .before .before .before .loop .inv) (w .before .before .loop-test .taken) (w .before .kind .ensures) (w .if1 .left)))
-    (λ c κs. search needs)
-    (λ c. search needs)
-    (λ c κs. c .before .before .before .before .before .before .before .before .before .before .value .ensures)
-    (λ c. let w = c .before .before .before .before .before .before .before .before .before .before .before .before .before .before .before .before in search (needs, w .loop-test .taken, w .before .before .before .before .before .before .before .pre .1))
-    (λ c. search (needs, c .before .before .before .before .before .before .before .before .before .before .before .before .before .before .before .before .loop-test .taken))
-    (λ c. let w = c .before .before .before .before .before .before .before .before .before .before .before .before .before in enum-variant _ _ _ _ _ _ _ _ _ _ _ _ _ _ _ _ (w .before .before .before .before .loop .inv) (w .before .before .before .loop-test .taken) (w .before .before .kind .ensures) (w .before .if1 .left) (w .value .ensures) (c .before .before .before .before .before .before .before .before .before .is-met .ensures) (c .before .before .before .before .before .is-met2 .ensures) (c .before .before .before .before .mark .ensures .0) (search (needs, w .before .before .before .before .loop .inv)) (c .before .before .check-variant .ensures))
+    (λ c κs. let w = c .before .before .before in (w .before .before .loop-test .taken, kind-is _ _ _ _ (w .before .kind .ensures) (w .if1 .left), c .before .before .value .ensures, w .before .before .before .loop .inv .2))
+    (λ c κs. c .before .before .before .before .value .ensures)
+    (λ c. let w = c .before .before .before .before .before .before .before .before .before .before in search (needs, w .loop-test .taken, w .before .before .before .before .before .before .before .pre .1))
+    (λ c. search (needs, c .before .before .before .before .before .before .before .before .before .before .loop-test .taken))
+    (λ c. let w = c .before .before .before .before .before .before .before in enum-variant _ _ _ _ _ _ _ _ _ _ _ _ _ _ _ _ (w .before .before .before .before .loop .inv) (w .before .before .before .loop-test .taken) (w .before .before .kind .ensures) (w .before .if1 .left) (w .value .ensures) (c .before .before .before .before .meet .ensures) (search (needs, w .before .before .before .before .loop .inv)) (c .before .before .check-variant .ensures))
     (λ c. search needs)
     (λ c. enum-end _ _ _ _ _ _ _ _ _ _ (c .before .loop .inv) (c .loop-test .left)))

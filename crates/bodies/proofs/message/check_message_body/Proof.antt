@@ -2,9 +2,8 @@
 use Prim.Native.Nat.{_-_}
 use native.Mathlib.Omega.{arith}
 use borrow.Author.Needs.{needs}
-use Rattle.bodies.proofs.Passing.{known-first, known-last}
 use Rattle.bodies.proofs.Turns.{kind-is}
-use Rattle.bodies.proofs.FieldList.{FieldsKnown, fields-none, fields-other, fields-room, fields-field, fields-end}
+use Rattle.bodies.proofs.FieldList.{FieldsKnown, fields-none, fields-other, fields-field, fields-end}
 use Rattle.bodies.proofs.message.check_message_body.Statement.{statement}
 use Rattle.bodies.proofs.message.check_message_body.Tie as tie
 
@@ -29,16 +28,10 @@ check-message-body-spec =
     (λ c. search needs)
     (λ c. let w = c .before .before .before .before .before in fields-other _ _ _ _ _ _ _ _ _ _ _ _ _ _ (w .before .before .loop .inv) (w .before .loop-test .taken) (w .kind .ensures) (c .before .before .before .before .if1 .taken) (search needs) (c .before .before .check-invariant .ensures))
     (λ c κs. search needs)
-    (λ c κs. known-first _ _ _ _ _ _ _ _ _ (c .before .before .before .before .before .before .before .loop .inv .2))
-    (λ c κs. known-last _ _ _ _ _ _ _ _ _ (c .before .before .before .before .before .before .before .before .before .before .before .loop .inv .2))
-    (λ c. search needs)
-    (λ c. let w = c .before .before .before .before .before .before .before .before .before in fields-room _ _ _ _ _ _ _ _ _ _ _ _ _ (w .before .before .before .loop .inv) (w .before .before .loop-test .taken) (w .before .kind .ensures) (w .if1 .left))
-    (λ c. let w = c .before .before .before .before .before .before .before .before .before in omega (arith, fields-room _ _ _ _ _ _ _ _ _ _ _ _ _ (w .before .before .before .loop .inv) (w .before .before .loop-test .taken) (w .before .kind .ensures) (w .if1 .left)))
-    (λ c κs. search needs)
-    (λ c. search needs)
-    (λ c κs. let w = c .before .before .before .before .before .before .before .before .before .before .before .before in (w .before .before .before .loop .inv .3, kind-is _ _ _ _ (w .before .kind .ensures) (w .if1 .left), omega (arith, w .before .before .loop-test .taken, w .before .before .before .before .before .before .before .before .before .pre .1)))
-    (λ c κs. let w = c .before .before .before .before .before .before .before .before .before .before .before .before .before in (w .before .before .before .loop-test .taken, w .value .ensures))
-    (λ c. let w = c .before .before .before .before .before .before .before .before .before .before .before .before .before .before .before .before .before .before .before .before in omega (arith, w .loop-test .taken, c .before .before .before .check-field-at .ensures .1 .2 (omega (arith, w .loop-test .taken))))
-    (λ c. let w = c .before .before .before .before .before .before .before .before .before .before .before .before .before .before .before .before .before in fields-field _ _ _ _ _ _ _ _ _ _ _ _ _ _ _ _ _ _ _ _ _ _ (w .before .before .before .before .loop .inv) (w .before .before .before .loop-test .taken) (w .before .before .kind .ensures) (w .before .if1 .left) (w .value .ensures) (c .before .before .before .before .before .before .before .before .before .before .before .before .before .is-met .ensures) (c .before .before .before .before .before .before .before .before .before .is-met2 .ensures) (c .before .before .before .before .before .before .before .before .mark .ensures .0) (c .before .before .before .before .before .meet-name .ensures) (c .before .before .before .check-field-at .ensures .1) (search (needs, w .before .before .before .before .loop .inv)) (c .before .before .before .check-field-at .ensures .0))
+    (λ c κs. let w = c .before .before .before in (w .before .before .loop-test .taken, kind-is _ _ _ _ (w .before .kind .ensures) (w .if1 .left), c .before .before .value .ensures, w .before .before .before .loop .inv .2))
+    (λ c κs. let w = c .before .before .before .before .before .before in (w .before .before .before .loop .inv .3, kind-is _ _ _ _ (w .before .kind .ensures) (w .if1 .left), omega (arith, w .before .before .loop-test .taken, w .before .before .before .before .before .before .before .before .before .pre .1)))
+    (λ c κs. let w = c .before .before .before .before .before .before .before in (w .before .before .before .loop-test .taken, w .value .ensures))
+    (λ c. let w = c .before .before .before .before .before .before .before .before .before .before .before .before .before .before in omega (arith, w .loop-test .taken, c .before .before .before .check-field-at .ensures .1 .2 (omega (arith, w .loop-test .taken))))
+    (λ c. let w = c .before .before .before .before .before .before .before .before .before .before .before in fields-field _ _ _ _ _ _ _ _ _ _ _ _ _ _ _ _ _ _ _ _ _ _ (w .before .before .before .before .loop .inv) (w .before .before .before .loop-test .taken) (w .before .before .kind .ensures) (w .before .if1 .left) (w .value .ensures) (c .before .before .before .before .before .before .before .before .meet .ensures) (c .before .before .before .before .before .meet-name .ensures) (c .before .before .before .check-field-at .ensures .1) (search (needs, w .before .before .before .before .loop .inv)) (c .before .before .before .check-field-at .ensures .0))
     (λ c. search needs)
     (λ c. fields-end _ _ _ _ _ _ _ _ _ _ _ _ (c .before .loop .inv) (c .loop-test .left)))

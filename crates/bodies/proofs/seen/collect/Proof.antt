@@ -1,6 +1,6 @@
 -- The loop's invariant: the numbers of the records from `i` on are collected.
 use borrow.Author.Needs.{needs}
-use Rattle.bodies.proofs.Collecting.{Collected, collected-none, collected-other, collected-room, collected-next, collected-all}
+use Rattle.bodies.proofs.Collecting.{Collected, collected-none, collected-other, collected-out, collected-room, collected-next, collected-all}
 use Rattle.bodies.proofs.seen.collect.Statement.{statement}
 use Rattle.bodies.proofs.seen.collect.Tie as tie
 
@@ -10,7 +10,7 @@ Inv-loop sheet ordinals₀ marks₀ kind a e len₀ i₀ ordinals marks len i = 
 abbrev μ-loop : tie.MeasureT-loop
 μ-loop sheet ordinals₀ marks₀ kind a e len₀ i₀ ordinals marks len i = i
 
-ruleset laws = (needs, collected-none, collected-other, collected-room, collected-next)
+ruleset laws = (needs, collected-none, collected-other, collected-out, collected-room, collected-next)
 
 pub collect-spec : {M : Type 1} → statement M
 collect-spec =
@@ -20,6 +20,9 @@ collect-spec =
     μ-loop
     (λ c. search laws)
     (λ c. search needs)
+    (λ c κs. search needs)
+    (λ c. search needs)
+    (λ c. search laws)
     (λ c κs. search needs)
     (λ c. search needs)
     (λ c. search laws)

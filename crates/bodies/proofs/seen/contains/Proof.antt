@@ -1,18 +1,15 @@
--- The loop's invariant: `found` says whether the number is among those from `a` up to `i`.
+-- The loop's invariant: `found` says whether the number is among the first `i` of either half.
 use Prim.Native.Nat.{_-_, _≤_}
-use mathlib.Core.Path.{_≡_}
 use borrow.Author.Needs.{needs}
-use Rattle.rules.specs.Words.{member}
-use Rattle.bodies.specs.Seen.{latest}
-use Rattle.bodies.proofs.Marks.{contains-none, contains-next, contains-all}
+use Rattle.bodies.proofs.Marks.{InHalves, halves-none, halves-next, halves-even, halves-odd}
 use Rattle.bodies.proofs.seen.contains.Statement.{statement}
 use Rattle.bodies.proofs.seen.contains.Tie as tie
 
 abbrev Inv-loop : tie.InvT-loop
-Inv-loop ordinals a e ordinal found₀ i₀ found i = (found ≡ member ordinal (latest ordinals a (i - a))) × (a ≤ i) × (i ≤ e)
+Inv-loop ordinals a e ordinal half middle found₀ i₀ found i = InHalves ordinals ordinal a middle found i × (i ≤ half)
 
 abbrev μ-loop : tie.MeasureT-loop
-μ-loop ordinals a e ordinal found₀ i₀ found i = e - i
+μ-loop ordinals a e ordinal half middle found₀ i₀ found i = half - i
 
 pub contains-spec : {M : Type 1} → statement M
 contains-spec =
@@ -20,10 +17,21 @@ contains-spec =
     (tie.spec
     Inv-loop
     μ-loop
-    (λ c. search (needs, contains-none))
+    (λ c. search needs)
+    (λ c. search needs)
+    (λ c. (halves-none _ _ _ _, search needs))
     (λ c. search needs)
     (λ c. search needs)
     (λ c. search needs)
     (λ c. search needs)
-    (λ c. search (needs, contains-next))
-    (λ c. search contains-all))
+    (λ c. search needs)
+    (λ c. search needs)
+    (λ c. search needs)
+    (λ c. search needs)
+    (λ c. (halves-next _ _ _ _ _ _ (c .before .before .before .loop .inv .0), search needs))
+    (λ c. search needs)
+    (λ c. search needs)
+    (λ c. search needs)
+    (λ c. search needs)
+    (λ c. let w = c .before .before in halves-odd _ _ _ _ _ _ _ (w .before .loop .inv .0) (w .before .loop .inv .1) (w .loop-test .left) (search needs))
+    (λ c. let w = c .before in halves-even _ _ _ _ _ _ _ (w .before .loop .inv .0) (w .before .loop .inv .1) (w .loop-test .left) (search needs)))
