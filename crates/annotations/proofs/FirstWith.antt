@@ -1,6 +1,6 @@
 -- Rule 13: the first annotation with a word is found record by record, and some annotation has the word just if there is a first.
 use Prim.Native.Nat.{ℕ, _+_, _≤_, _<_}
-use mathlib.Core.Path.{_≡_, refl, _∙_, ap}
+use mathlib.Core.Path.{_≡_, refl, sym, _∙_, ap}
 use mathlib.Core.Bool.{Bool, true, false, _&&_, _||_}
 use mathlib.Core.List.{List, [], _∷_, _++_, flatMap}
 use lib.Dec.{ltb, eqb}
@@ -16,6 +16,7 @@ use Rattle.rules.specs.Rule.{foundIf, ruleRow}
 use Rattle.rules.specs.Annotations.{annotationsOf, isWord, combinedViolations}
 use Rattle.names.specs.View.{viewAt, viewOf, contextBy, entryOf, codePart}
 use Rattle.diagnostic.specs.Push.{State, pushIf, pushFound}
+use Rattle.diagnostic.proofs.FoundPushes.{found-none}
 use Rattle.annotations.specs.AnnotationAt.{annotationAt}
 use Rattle.annotations.specs.FirstWith.{firstWith}
 use Rattle.annotations.proofs.Views.{kind-is, annotations-next, annotations-other, annotations-none}
@@ -73,23 +74,27 @@ module _ {A : Type 0} where
   pub any-is : (p : A → Bool) (xs : List A) (b : Bool) (x : A) → take 1 (select p xs) ≡ onlyIf b (x ∷ []) → anyOf p xs ≡ b
   any-is p xs b x h = any-first p xs ∙ ap isSome h ∙ some-if b x
 
-both :
-    (b c : Bool) (x : Item (Rec ℕ Span)) →
-    onlyIf b (flatMap (λ (a : Item (Rec ℕ Span)). foundIf 13 true (a .head .place)) (onlyIf c (x ∷ []))) ≡ foundIf 13 (b && c) (x .head .place)
+at-first :
+    (c : Bool) (x : Item (Rec ℕ Span)) →
+    flatMap (λ (a : Item (Rec ℕ Span)). foundIf 13 true (a .head .place)) (onlyIf c (x ∷ [])) ≡ foundIf 13 c (x .head .place)
 unfolding flatMap
-both true true x = refl
-both true false x = refl
-both false c x = refl
+at-first true x = refl
+at-first false x = refl
 
-pub combined-found :
-    (table sheet : List ℕ) (a e v z : ℕ) (place : Span) (w : Violation) (s t : State) →
-    firstWith table sheet varint a e ≡ onlyIf (ltb v e) (annotationAt sheet v e ∷ []) →
-    firstWith table sheet zigzag a e ≡ onlyIf (ltb z e) (annotationAt sheet z e ∷ []) →
-    place ≡ spanIn (recordBytes sheet z) → w ≡ record { class = 54; severity = 0; span = place } →
-    t ≡ pushIf (ltb v e && ltb z e) w s →
-    t ≡ pushFound (combinedViolations (contextBy table sheet) (annotationsOf (viewOf sheet a e))) s
-unfolding firstWith combinedViolations ruleRow annotationAt viewAt
-combined-found table sheet a e v z place w s t hv hz hp hw pushed =
-    let some = any-is (isWord (contextBy table sheet) varint) (annotationsOf (viewOf sheet a e)) (ltb v e) (annotationAt sheet v e) hv in
-    pushed-if 13 (ltb v e && ltb z e) place w s t hw pushed
-    ∙ rw (hp, some, hz, both (ltb v e) (ltb z e) (annotationAt sheet z e))
+module _ (table sheet : List ℕ) (a e v : ℕ) (s : State) (hv : firstWith table sheet varint a e ≡ onlyIf (ltb v e) (annotationAt sheet v e ∷ [])) where
+  some-varint : anyOf (isWord (contextBy table sheet) varint) (annotationsOf (viewOf sheet a e)) ≡ ltb v e
+  unfolding firstWith
+  some-varint = any-is (isWord (contextBy table sheet) varint) (annotationsOf (viewOf sheet a e)) (ltb v e) (annotationAt sheet v e) hv
+
+  pub combined-none : e ≤ v → s ≡ pushFound (combinedViolations (contextBy table sheet) (annotationsOf (viewOf sheet a e))) s
+  unfolding combinedViolations
+  combined-none h = rw (some-varint, le-ltb v e h) (sym (found-none s))
+
+  pub combined-found :
+      (z : ℕ) (place : Span) (w : Violation) (t : State) → v < e →
+      firstWith table sheet zigzag a e ≡ onlyIf (ltb z e) (annotationAt sheet z e ∷ []) →
+      place ≡ spanIn (recordBytes sheet z) → w ≡ record { class = 54; severity = 0; span = place } → t ≡ pushIf (ltb z e) w s →
+      t ≡ pushFound (combinedViolations (contextBy table sheet) (annotationsOf (viewOf sheet a e))) s
+  unfolding firstWith combinedViolations ruleRow annotationAt viewAt
+  combined-found z place w t h hz hp hw pushed =
+      pushed-if 13 (ltb z e) place w s t hw pushed ∙ rw (hp, some-varint, lt-ltb v e h, hz, at-first (ltb z e) (annotationAt sheet z e))

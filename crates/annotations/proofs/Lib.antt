@@ -3,6 +3,7 @@ pub mod WordCodes
 pub mod FoundSteps
 pub mod Chains
 pub mod Repeats
+pub mod Single
 pub mod Reasons
 pub mod FirstWith
 pub mod Limits

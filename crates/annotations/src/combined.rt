@@ -42,8 +42,11 @@ pub fn check_combined(
     ensures { λ r. ⌜ _≡_ {A = List ℕ × Counts} (now (list .exit), r) (pushFound (combinedViolations (contextBy (now (table .entry)) (now (sheet .entry))) (annotationsOf (viewOf (now (sheet .entry)) a e))) (now (list .entry), counts)) ⌝ }
 {
     let varint = first_with(sheet, table, words::VARINT, a, e);
+    if e <= varint {
+        return counts;
+    }
     let zigzag = first_with(sheet, table, words::ZIGZAG, a, e);
     // rule 13
     let violation = Violation::error(sheet::span(sheet, zigzag), Violation::VarintZigzagCombined);
-    diagnostic::push_if(list, counts, (varint < e) & (zigzag < e), violation)
+    diagnostic::push_if(list, counts, zigzag < e, violation)
 }

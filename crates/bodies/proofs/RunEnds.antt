@@ -15,7 +15,7 @@ use Rattle.rules.specs.Record.{Rec, recordBytes, kindIn}
 use Rattle.names.specs.View.{viewAt, viewFrom, viewOf}
 use Rattle.types.proofs.Views.{view-cons, view-none}
 use Rattle.bodies.specs.declared.runs.Run.{Run}
-use Rattle.bodies.specs.declared.runs.Run.the-variants.{Front, Annotations, Types, BitNames, FieldItem, Item}
+use Rattle.bodies.specs.declared.runs.Run.the-variants.{Front, Annotations, Optionals, Types, BitNames, FieldItem, Item}
 use Rattle.bodies.specs.Runs.{inRun, EndsAt, AllIn}
 
 -- a number that is not between two bounds is under the one or over the other
@@ -30,7 +30,7 @@ either : (p q : Bool) → (not p || not q) ≡ not (p && q)
 either true q = refl
 either false q = refl
 
-outside : (low high n : ℕ) → (ltb n low || ltb high n) ≡ not (within low high n)
+pub outside : (low high n : ℕ) → (ltb n low || ltb high n) ≡ not (within low high n)
 outside low high n = rw (under low n, under n high) (either (leb low n) (leb n high))
 
 -- the kinds of each run
@@ -42,6 +42,10 @@ module _ (run : Run) (sheet : List ℕ) (i k : ℕ) (read : k ≡ kindIn (record
   pub in-annotations : run ≡ Annotations → (leb Kind.Annotation k && leb k Kind.Argument) ≡ inRun run (viewAt sheet i)
   unfolding viewAt
   in-annotations which = rw (which, read)
+
+  pub in-optionals : run ≡ Optionals → eqb k Kind.Optional ≡ inRun run (viewAt sheet i)
+  unfolding viewAt
+  in-optionals which = rw (which, read)
 
   pub in-types : (type : Bool) → run ≡ Types → type ≡ Kind.isType k → type ≡ inRun run (viewAt sheet i)
   unfolding viewAt
@@ -75,15 +79,15 @@ rest-first p (x ∷ xs) = by (rest-first p xs) (p x) refl
     by later true h = rw (rest, h) later
     by later false h = rw (rest, h) h
 
+-- the record where a run ends is not of it
+pub ends-out : (p : Rec ℕ Span → Bool) (sheet : List ℕ) (a e r : ℕ) → EndsAt p sheet a e r → r < e → p (viewAt sheet r) ≡ false
+unfolding EndsAt
+ends-out p sheet a e r ends h = ap (firstIs p) (sym (view-cons sheet r e h) ∙ ends .1) ∙ rest-first p (viewOf sheet a e)
+
 module _ (p : Rec ℕ Span → Bool) (sheet : List ℕ) (a e : ℕ) where
   -- what is known of the end of a run
   abbrev pub RunTo : ℕ → Type 0
   RunTo r = EndsAt p sheet a e r × (r ≤ e) × (a ≤ e → a ≤ r) × AllIn p sheet a r
-
-  -- the record where a run ends is not of it
-  pub ends-out : (r : ℕ) → EndsAt p sheet a e r → r < e → p (viewAt sheet r) ≡ false
-  unfolding EndsAt
-  ends-out r ends h = ap (firstIs p) (sym (view-cons sheet r e h) ∙ ends .1) ∙ rest-first p (viewOf sheet a e)
 
   -- the records from a up to i are of the run, and so what follows them is cut where all are
   pub record Passed (i : ℕ) : Type 0 where
@@ -166,3 +170,10 @@ module _ (p : Rec ℕ Span → Bool) (sheet : List ℕ) (a e : ℕ) where
       by : Dec (r ≡ e) → RunTo r
       by (yes same) = rw same (passed-all r passed (omega arith))
       by (no differ) = let h : r < e = omega arith in passed-end r passed false h (sym (out h)) refl
+
+  -- a run goes on behind records of it
+  pub run-on : (m r : ℕ) → a ≤ m → m ≤ e → AllIn p sheet a m → EndsAt p sheet m e r × (r ≤ e) × (m ≤ e → m ≤ r) × AllIn p sheet m r → RunTo r
+  run-on m r least most all run =
+      passed-out r
+      (passed-to m r (passed-to a m none-passed least most all) (run .2 most) (run .1) (run .3))
+      (run .1) (ends-out p sheet m e r (run .0))

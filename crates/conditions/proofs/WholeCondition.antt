@@ -1,10 +1,13 @@
 -- A condition's records are taken one after the other, each with those after it.
 use Prim.Native.Nat.{ℕ, _+_, _≤_, _<_}
-use mathlib.Core.Path.{_≡_, sym, _∙_}
-use mathlib.Core.Bool.{Bool}
-use mathlib.Core.List.{List}
+use mathlib.Core.Path.{_≡_, refl, sym, ap, _∙_}
+use mathlib.Core.Bool.{Bool, true}
+use mathlib.Core.List.{List, [], _∷_, _++_}
+use borrow.Author.Tests.{eqb-true}
 use Rattle.rules.specs.declared.span.Span.{Span}
-use Rattle.rules.specs.Record.{Rec}
+use Rattle.rules.specs.Words.{rest}
+use Rattle.rules.specs.Kind
+use Rattle.rules.specs.Record.{Rec, is}
 use Rattle.rules.specs.Context.{ValidationContext}
 use Rattle.rules.specs.Types.{isCollectionType}
 use Rattle.rules.specs.Conditions.{Literals, literalsOf, ownConditionViolations, conditionViolations}
@@ -36,3 +39,23 @@ module _ (ctx : ValidationContext ℕ Span) (ty : List (Rec ℕ Span)) where
       (sheet : List ℕ) (i e : ℕ) (s u : State) → e ≤ i → pushFound (conditionViolations ctx ty (viewOf sheet i e)) s ≡ u → s ≡ u
   unfolding conditionViolations
   condition-end sheet i e s u h all = sym (found-none s) ∙ rw (view-none sheet i e h) at all
+
+-- an optional before another changes neither the literals nor whether there is a length, and so nothing that is found
+module _ (ctx : ValidationContext ℕ Span) (t u : Rec ℕ Span) (rs : List (Rec ℕ Span)) (ht : is Kind.Optional t ≡ true) (hu : is Kind.Optional u ≡ true) where
+  optional-literals : literalsOf (t ∷ u ∷ rs) ≡ literalsOf (u ∷ rs)
+  unfolding rest
+  optional-literals = rw (rest, eqb-true (t .kind) Kind.Optional ht, eqb-true (u .kind) Kind.Optional hu)
+
+  optional-length : isCollectionType (t ∷ u ∷ rs) ≡ isCollectionType (u ∷ rs)
+  unfolding rest
+  optional-length = rw (rest, eqb-true (t .kind) Kind.Optional ht)
+
+  pub optional-condition : (cs : List (Rec ℕ Span)) → conditionViolations ctx (t ∷ u ∷ rs) cs ≡ conditionViolations ctx (u ∷ rs) cs
+  unfolding conditionViolations
+  optional-condition [] = refl
+  optional-condition (c ∷ cs) =
+      rw (
+      sym (own-found ctx (t ∷ u ∷ rs) (literalsOf (u ∷ rs)) (isCollectionType (u ∷ rs)) c cs (sym optional-literals) (sym optional-length))
+      ∙ own-found ctx (u ∷ rs) (literalsOf (u ∷ rs)) (isCollectionType (u ∷ rs)) c cs refl refl
+      )
+      (ap (λ found. ownConditionViolations ctx (u ∷ rs) c cs ++ found) (optional-condition cs))

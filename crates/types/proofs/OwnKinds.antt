@@ -39,7 +39,7 @@ same-element ctx (r ∷ rs) = refl
 
 -- the rules that are left for each kind
 module _ (ctx : ValidationContext ℕ Span) (t : Rec ℕ Span) (rs : List (Rec ℕ Span)) where
-  own-named : t .kind ≡ Kind.Named → ownTypeViolations ctx t rs ≡ namedFound ctx t
+  pub own-named : t .kind ≡ Kind.Named → ownTypeViolations ctx t rs ≡ namedFound ctx t
   unfolding ownTypeViolations namedFound
   own-named h = rw (ownTypeViolations, h) (simp append-nil)
 

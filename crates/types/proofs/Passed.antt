@@ -29,6 +29,9 @@ module _ (t : Rec ℕ Span) where
   unfolding isPassed
   passed-other h = rw (isPassed, ne-eqb (t .kind) Kind.FixedArray h)
 
+  pub passed-optional : t .kind ≡ Kind.Optional → isPassed t ≡ true
+  passed-optional h = passed-other (λ q. omega arith) ∙ rw h
+
   passed-bit : t .kind ≡ Kind.BitName → isPassed t ≡ true
   passed-bit h = passed-other (λ q. omega arith) ∙ rw h
 

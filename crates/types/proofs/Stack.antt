@@ -11,6 +11,7 @@ use borrow.Author.Tests.{ne-eqb, eqb-true, leb-true}
 use Rattle.rules.specs.Kind
 use Rattle.rules.specs.Types.{checkedParts}
 use Rattle.sheet.proofs.Below.{passesBelow, passes-at}
+use Rattle.types.proofs.OwnKinds.{below}
 use Rattle.types.specs.declared.field_type.Due.{Due}
 use Rattle.types.specs.Due.{stackOf, stackAfter}
 
@@ -44,6 +45,25 @@ after-bit (test ∷ tests) k h = rw (stackAfter, h)
 after-type : (test : Bool) (tests : List Bool) (k : ℕ) → (k ≡ Kind.BitName → ⊥) → stackAfter (test ∷ tests) k ≡ map (λ part. test && part) (checkedParts k) ++ tests
 unfolding stackAfter
 after-type test tests k h = rw (stackAfter, ne-eqb k Kind.BitName h)
+
+-- a kind before generic has no parts, so that nothing is due after a type of it by itself
+no-parts : (k : ℕ) → k < Kind.Generic → Kind.partsOf k ≡ []
+unfolding Kind.partsOf
+no-parts k h =
+    rw (
+      below Kind.Generic Kind.Set k (omega arith),
+      below Kind.Vec2 Kind.Mat4 k (omega arith),
+      below Kind.Map Kind.Result k (omega arith),
+      below Kind.And Kind.Or k (omega arith),
+      ne-eqb k Kind.Not (λ q. omega arith),
+      ne-eqb k Kind.Cmp (λ q. omega arith),
+      ne-eqb k Kind.LenCmp (λ q. omega arith),
+      ne-eqb k Kind.Range (λ q. omega arith),
+      ne-eqb k Kind.LenRange (λ q. omega arith),
+    )
+
+pub after-leaf : (k : ℕ) → (k ≡ Kind.BitName → ⊥) → k < Kind.Generic → stackAfter (true ∷ []) k ≡ []
+after-leaf k type h = after-type true [] k type ∙ rw (checkedParts, ne-eqb k Kind.Map (λ q. omega arith), no-parts k h)
 
 module _ (k parts : ℕ) (count : parts ≡ length (Kind.partsOf k)) (type : k ≡ Kind.BitName → ⊥) where
   -- a skipped type, and a checked type that is neither map nor generic

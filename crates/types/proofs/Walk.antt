@@ -2,23 +2,25 @@
 use Prim.Native.Nat.{ℕ, zero, suc, _+_, _<_, _≤_}
 use mathlib.Core.Path.{_≡_, refl, sym, _∙_}
 use mathlib.Core.Bool.{Bool, true, false, _&&_, and-false, and-true}
-use mathlib.Core.List.{List, [], _∷_, _++_}
+use mathlib.Core.List.{List, [], _∷_, _++_, append-nil}
 use native.Mathlib.Omega.{arith}
-use lib.Dec.{eqb}
+use lib.Dec.{eqb, leb}
 use lib.ListN.{replicate}
 use borrow.Author.Tests.{eqb-true, ne-eqb}
 use Rattle.rules.specs.declared.span.Span.{Span}
 use Rattle.rules.specs.Kind
 use Rattle.rules.specs.Record.{Rec, is, recordBytes, kindIn}
 use Rattle.rules.specs.Context.{ValidationContext}
-use Rattle.rules.specs.Types.{ownTypeViolations, typesViolations}
+use Rattle.rules.specs.Types.{ownTypeViolations, typesViolations, typeViolations}
 use Rattle.diagnostic.specs.Push.{State, pushFound}
 use Rattle.diagnostic.proofs.FoundPushes.{found-append, found-none}
 use Rattle.names.specs.View.{viewAt, viewOf, contextBy}
 use Rattle.types.specs.declared.field_type.Due.{Due}
+use Rattle.types.specs.Own.{namedFound}
 use Rattle.types.specs.Due.{stackOf, stackAfter, isPassed, isChecked, turnFound}
-use Rattle.types.proofs.OwnKinds.{both}
-use Rattle.types.proofs.Passed.{plain-turn, passing}
+use Rattle.types.proofs.OwnKinds.{both, within-true, own-named}
+use Rattle.types.proofs.Passed.{passed-optional, plain-turn, passing}
+use Rattle.types.proofs.Stack.{after-leaf}
 use Rattle.types.proofs.Views.{view-cons, view-none}
 
 module _ (ctx : ValidationContext ℕ Span) where
@@ -45,6 +47,39 @@ module _ (ctx : ValidationContext ℕ Span) where
   unfolding turnFound stackAfter typesViolations
   turn [] t rs = sym (nothing-due rs)
   turn (test ∷ tests) t rs = at-record test tests t rs (is Kind.BitName t) refl
+
+  -- an optional adds nothing to what is found in the type within it
+  pub optional-type : (t : Rec ℕ Span) (rs : List (Rec ℕ Span)) → is Kind.Optional t ≡ true → typeViolations ctx (t ∷ rs) ≡ typeViolations ctx rs
+  optional-type t rs h =
+      let both = passing ctx (true ∷ []) t rs (passed-optional t (eqb-true (t .kind) Kind.Optional h)) in
+      turn (true ∷ []) t rs ∙ rw (both .0, ← both .1)
+
+-- a type of a kind before generic is all there is: nothing is found at a plain one, and the rules of its name at one that names something
+module _ (ctx : ValidationContext ℕ Span) (t : Rec ℕ Span) (rs : List (Rec ℕ Span)) (type : t .kind ≡ Kind.BitName → ⊥) where
+  leaf : t .kind < Kind.Generic → typeViolations ctx (t ∷ rs) ≡ turnFound ctx (true ∷ []) t rs
+  leaf h = turn ctx (true ∷ []) t rs ∙ rw (after-leaf (t .kind) type h, nothing-due ctx rs, append-nil)
+
+  leaf-named : t .kind ≡ Kind.Named → typeViolations ctx (t ∷ rs) ≡ namedFound ctx t
+  unfolding turnFound
+  leaf-named h = leaf (omega arith) ∙ rw (turnFound, ne-eqb (t .kind) Kind.BitName type, own-named ctx t rs h)
+
+module _ (ctx : ValidationContext ℕ Span) (sheet : List ℕ) (a e : ℕ) (s : State) where
+  pub type-none : e ≤ a → s ≡ pushFound (typeViolations ctx (viewOf sheet a e)) s
+  type-none h = rw (view-none sheet a e h, nothing-left ctx (true ∷ [])) (sym (found-none s))
+
+  module _ (k : ℕ) (h : a < e) (kind : k ≡ kindIn (recordBytes sheet a)) where
+    pub type-plain : (leb Kind.Primitive k && leb k Kind.Semantic) ≡ true → s ≡ pushFound (typeViolations ctx (viewOf sheet a e)) s
+    unfolding viewAt
+    type-plain plain =
+        let range : (Kind.Primitive ≤ k) × (k ≤ Kind.Semantic) = within-true Kind.Primitive Kind.Semantic k plain in
+        let t = viewAt sheet a in
+        let rs = viewOf sheet (a + 1) e in
+        rw (view-cons sheet a e h, leaf ctx t rs (λ q. omega arith) (omega arith), plain-turn ctx (true ∷ []) t rs (omega arith)) (sym (found-none s))
+
+    pub type-named : (t : State) → k ≡ Kind.Named → t ≡ pushFound (namedFound ctx (viewAt sheet a)) s → t ≡ pushFound (typeViolations ctx (viewOf sheet a e)) s
+    unfolding viewAt
+    type-named t named push =
+        rw (view-cons sheet a e h, leaf-named ctx (viewAt sheet a) (viewOf sheet (a + 1) e) (λ q. omega arith) (sym kind ∙ named)) push
 
 -- the next type is skipped if any is, and else checked if any is
 skips : (p c : ℕ) → 0 < p → isChecked (replicate p false ++ replicate c true) ≡ false

@@ -9,6 +9,7 @@ ghost use Rattle.rules.specs.Types.{typeViolations};
 ghost use Rattle.diagnostic.specs.Push.{pushFound};
 ghost use Rattle.names.specs.View.{viewAt, viewOf, contextBy};
 ghost use Rattle.types.specs.Due.{stackOf, stackAfter, isPassed, turnFound};
+use crate::own::check_named;
 use crate::own::check_own_type;
 use rules::Counts;
 use sheet::kinds;
@@ -100,8 +101,8 @@ fn check_due_type(
     check_own_type(sheet, table, list, counts, i, a, e)
 }
 
-// Adds rules 6 to 12 of the type from record `a` up to record `e`.
-pub fn check_field_type(
+// Adds rules 6 to 12 of the type from record `a` up to record `e`, type by type.
+fn check_types(
     sheet: &[u8],
     table: &[u16; 5122],
     list: &mut [u8],
@@ -134,4 +135,29 @@ pub fn check_field_type(
         }
     }
     counts
+}
+
+// Adds rules 6 to 12 of the type from record `a` up to record `e`.
+pub fn check_field_type(
+    sheet: &[u8],
+    table: &[u16; 5122],
+    list: &mut [u8],
+    counts: Counts,
+    a: usize,
+    e: usize,
+) -> Counts
+    ensures { λ r. ⌜ _≡_ {A = List ℕ × Counts} (now (list .exit), r) (pushFound (typeViolations (contextBy (now (table .entry)) (now (sheet .entry))) (viewOf (now (sheet .entry)) a e)) (now (list .entry), counts)) ⌝ }
+{
+    if e <= a {
+        return counts;
+    }
+    let kind = sheet::kind(sheet, a);
+    // a type of these kinds has no parts, and no rule but those of its name
+    if (kinds::PRIMITIVE <= kind) & (kind <= kinds::SEMANTIC) {
+        return counts;
+    }
+    if kind == kinds::NAMED {
+        return check_named(sheet, table, list, counts, a);
+    }
+    check_types(sheet, table, list, counts, a, e)
 }

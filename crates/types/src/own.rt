@@ -24,7 +24,7 @@ fn is_known_type(table: &[u16; 5122], i: usize) -> bool
 }
 
 // Adds rules 6 and 7 at type `i`, which names something.
-fn check_named(
+pub fn check_named(
     sheet: &[u8],
     table: &[u16; 5122],
     list: &mut [u8],
