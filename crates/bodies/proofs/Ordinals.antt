@@ -92,6 +92,19 @@ module _ (rules : OrdinalRules) (o t r : ℕ) (over : Tells (rules .«too_large�
   unfolding flatMap
   nameless-found sheet i tombstoned met s u hu = member-found [] sheet i tombstoned met false s u u hu (sym (found-none u))
 
+-- no rule is against a field's ordinal and name
+pub field-fine :
+    (sheet : List ℕ) (i ordinal : ℕ) (tombstoned met again : Bool) (s : State) → ordinal ≡ valueIn (recordBytes sheet i) →
+    (((not tombstoned && not met) && not again) && leb ordinal 65535) ≡ true →
+    s ≡ pushFound (memberFound fieldScheme tombstoned met again (viewAt sheet i)) s
+unfolding memberFound viewAt flatMap
+field-fine sheet i ordinal true met again s ho h = absurd (true≢false (sym h))
+field-fine sheet i ordinal false true again s ho h = absurd (true≢false (sym h))
+field-fine sheet i ordinal false false true s ho h = absurd (true≢false (sym h))
+field-fine sheet i ordinal false false false s ho h =
+    let under : ltb 65535 (valueIn (recordBytes sheet i)) ≡ false = ap (ltb 65535) (sym ho) ∙ le-ltb 65535 ordinal (leb-true ordinal 65535 h) in
+    rw under (sym (found-none s))
+
 -- the rules of a field's ordinal and name
 pub field-members :
     (sheet : List ℕ) (i : ℕ) (tombstoned met again : Bool) (span : Span) (s u v : State) →

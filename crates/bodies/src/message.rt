@@ -20,7 +20,7 @@ use crate::field::check_field;
 use crate::field::field_parts;
 use crate::met::meet_name;
 use crate::ordinal::OrdinalRules;
-use crate::ordinal::check_ordinal;
+use crate::ordinal::tell_ordinal;
 use crate::seen::Seen;
 use crate::seen::collect;
 use crate::seen::meet;
@@ -57,13 +57,16 @@ fn check_ordinal_and_name(
     requires { ⌜ ordinal ≡ valueIn (recordBytes (now sheet) i) ⌝ }
     ensures { λ r. ⌜ _≡_ {A = List ℕ × Counts} (now (list .exit), r) (pushFound (memberFound fieldScheme tombstoned met renamed (viewAt (now (sheet .entry)) i)) (now (list .entry), counts)) ⌝ }
 {
+    if !tombstoned & !met & !renamed & (ordinal <= Sheet::MAX_FIELD_ORDINAL) {
+        return counts;
+    }
     let rules = OrdinalRules {
         greatest: Sheet::MAX_FIELD_ORDINAL,
         too_large: Violation::OrdinalTooLarge,
         reused: Violation::OrdinalReusedAfterRemoved,
         duplicate: Violation::OrdinalDuplicate,
     };
-    let counts = check_ordinal(sheet, list, counts, i, ordinal, rules, tombstoned, met);
+    let counts = tell_ordinal(sheet, list, counts, i, rules, tombstoned, met);
     error_if(
         list,
         counts,

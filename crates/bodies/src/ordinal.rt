@@ -17,7 +17,7 @@ pub struct OrdinalRules {
 }
 
 // Adds what is wrong with the ordinal of record `i`, test by test.
-fn tell_ordinal(
+pub fn tell_ordinal(
     sheet: &[u8],
     list: &mut [u8],
     counts: Counts,
