@@ -1,7 +1,7 @@
 pub mod Views
 pub mod WordCodes
 pub mod FoundSteps
-pub mod Chains
+pub mod Slots
 pub mod Repeats
 pub mod Single
 pub mod Reasons

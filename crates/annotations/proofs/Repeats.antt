@@ -5,7 +5,7 @@ use mathlib.Core.Path.{_≡_, refl, _∙_, sym, ap}
 use mathlib.Core.Bool.{Bool, true, false}
 use mathlib.Core.List.{List, [], _∷_, _++_}
 use native.Mathlib.Omega.{arith}
-use lib.ListN.{getD, set}
+use lib.ListN.{set}
 use borrow.Author.Tests.{eq-eqb, ne-eqb}
 use Rattle.rules.specs.declared.span.Span.{Span}
 use Rattle.rules.specs.declared.violation.Violation.{Violation}
@@ -17,9 +17,9 @@ use Rattle.rules.specs.Annotations.{annotationsOf, duplicateAnnotations}
 use Rattle.names.specs.View.{viewAt, viewOf, contextBy, entryOf, idPart, codePart}
 use Rattle.diagnostic.specs.Push.{State, pushIf, pushFound}
 use Rattle.annotations.specs.AnnotationAt.{annotationAt}
-use Rattle.annotations.specs.Chains.{hasKey, Chained}
+use Rattle.annotations.specs.Slots.{hasKey, Slotted}
 use Rattle.annotations.specs.Earlier.{isAnnotation, earlierOf, earlier, repeatsAt}
-use Rattle.annotations.proofs.Chains.{chained-add}
+use Rattle.annotations.proofs.Slots.{slotted-added}
 use Rattle.annotations.proofs.Views.{is-annotation, is-other, annotations-next, annotations-other, annotations-none}
 use Rattle.annotations.proofs.WordCodes.{word-here, word-other}
 use Rattle.annotations.proofs.FoundSteps.{found-step, pushed-if, found-end}
@@ -68,13 +68,13 @@ module _ (table sheet : List ℕ) (a i id : ℕ) (hi : id ≡ entryOf idPart tab
   unfolding anyOf
   scan-none j before h = rw (before, earlier-none sheet a j h)
 
--- the chains of the annotations
+-- the slots of the annotations
 module _ (table sheet : List ℕ) (a : ℕ) where
-  chained-same :
+  slotted-same :
       (i n : ℕ) → hasKey (isAnnotation sheet) (entryOf idPart table) a (entryOf idPart table i) n ≡ anyOf (contextBy table sheet .same i) (earlierOf sheet a n)
   unfolding hasKey anyOf earlierOf contextBy
-  chained-same i zero = refl
-  chained-same i (suc n) = go (chained-same i n) (isAnnotation sheet (a + n)) refl
+  slotted-same i zero = refl
+  slotted-same i (suc n) = go (slotted-same i n) (isAnnotation sheet (a + n)) refl
     where
       go :
           hasKey (isAnnotation sheet) (entryOf idPart table) a (entryOf idPart table i) n ≡ anyOf (contextBy table sheet .same i) (earlierOf sheet a n) →
@@ -84,15 +84,15 @@ module _ (table sheet : List ℕ) (a : ℕ) where
       go ih false t = rw (t, ih)
 
   -- record i is met, and added
-  pub chained-meet :
-      (heads links : List ℕ) (i id b place : ℕ) (r : Bool) → Chained (isAnnotation sheet) (entryOf idPart table) a heads links i →
-      isAnnotation sheet i ≡ true → i < 1024 → id ≡ entryOf idPart table i →
-      r ≡ hasKey (isAnnotation sheet) (entryOf idPart table) a id (i - a) → b ≡ id % 512 → place ≡ i + 1 →
+  pub slotted-meet :
+      (slots : List ℕ) (i id b place : ℕ) (r : Bool) → Slotted (isAnnotation sheet) (entryOf idPart table) a slots i →
+      isAnnotation sheet i ≡ true → id ≡ entryOf idPart table i →
+      r ≡ hasKey (isAnnotation sheet) (entryOf idPart table) a id (i - a) → b ≡ id % 1024 → place ≡ i + 1 →
       (r ≡ anyOf (contextBy table sheet .same i) (earlier sheet a i))
-      × Chained (isAnnotation sheet) (entryOf idPart table) a (set heads b place) (set links i (getD heads b 0)) (i + 1)
-  chained-meet heads links i id b place r c t room hi hr hb hp = (
-    hr ∙ ap (λ v. hasKey (isAnnotation sheet) (entryOf idPart table) a v (i - a)) hi ∙ chained-same i (i - a),
-    rw hp (chained-add (isAnnotation sheet) (entryOf idPart table) a heads links i b t (hb ∙ ap (λ v. v % 512) hi) room c),
+      × Slotted (isAnnotation sheet) (entryOf idPart table) a (set slots b place) (i + 1)
+  slotted-meet slots i id b place r c t hi hr hb hp = (
+    hr ∙ ap (λ v. hasKey (isAnnotation sheet) (entryOf idPart table) a v (i - a)) hi ∙ slotted-same i (i - a),
+    slotted-added (isAnnotation sheet) (entryOf idPart table) a slots i id b place t hi hb hp c,
   )
 
 -- whether record i repeats an annotation

@@ -1,5 +1,5 @@
 pub mod AnnotationAt
-pub mod Chains
+pub mod Slots
 pub mod Each
 pub mod Earlier
 pub mod FirstWith

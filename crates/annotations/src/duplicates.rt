@@ -7,7 +7,7 @@ ghost use Rattle.rules.specs.Words.{anyOf};
 ghost use Rattle.rules.specs.Annotations.{annotationsOf, duplicateAnnotations};
 ghost use Rattle.names.specs.View.{viewOf, entryOf, idPart, contextBy};
 ghost use Rattle.diagnostic.specs.Push.{pushFound};
-ghost use Rattle.annotations.specs.Chains.{Chained};
+ghost use Rattle.annotations.specs.Slots.{Slotted};
 ghost use Rattle.annotations.specs.Earlier.{isAnnotation, earlier, repeatsAt};
 use crate::met::meet;
 use crate::words;
@@ -75,22 +75,21 @@ fn check_few(
     counts
 }
 
-// Whether record `i` is an annotation other than `doc`, and one from record `a` on has its name, by the chains, in which it is then.
+// Whether record `i` is an annotation other than `doc`, and one from record `a` on has its name, by the slots, in which it is then.
 fn is_duplicate_in_row(
     sheet: &[u8],
     table: &[u16; 5122],
-    heads: &mut [u16; 512],
-    links: &mut [u16; 1024],
+    slots: &mut [u16; 1024],
     a: usize,
     i: usize,
 ) -> bool
-    requires { ⌜ Chained (isAnnotation (now sheet)) (entryOf idPart (now table)) a (now heads) (now links) i × (a ≤ i) × (i < 1024) ⌝ }
-    ensures { λ r. ⌜ (r ≡ repeatsAt (now (table .entry)) (now (sheet .entry)) a i) × Chained (isAnnotation (now (sheet .entry))) (entryOf idPart (now (table .entry))) a (now (heads .exit)) (now (links .exit)) (i + 1) ⌝ }
+    requires { ⌜ Slotted (isAnnotation (now sheet)) (entryOf idPart (now table)) a (now slots) i × (a ≤ i) × (i < 1024) ⌝ }
+    ensures { λ r. ⌜ (r ≡ repeatsAt (now (table .entry)) (now (sheet .entry)) a i) × Slotted (isAnnotation (now (sheet .entry))) (entryOf idPart (now (table .entry))) a (now (slots .exit)) (i + 1) ⌝ }
 {
     if sheet::kind(sheet, i) != kinds::ANNOTATION {
         return false;
     }
-    let met = meet(sheet, table, heads, links, a, i);
+    let met = meet(sheet, table, slots, a, i);
     let code = names::code(table, i);
     if code == words::DOC {
         return false;
@@ -98,7 +97,7 @@ fn is_duplicate_in_row(
     met
 }
 
-// Adds the same violations where they are many: each stands in the chain of its name's bucket.
+// Adds the same violations where they are many: each is in its name's slot.
 fn check_row(
     sheet: &[u8],
     table: &[u16; 5122],
@@ -110,13 +109,12 @@ fn check_row(
     requires { ⌜ e ≤ 1024 ⌝ }
     ensures { λ r. ⌜ _≡_ {A = List ℕ × Counts} (now (list .exit), r) (pushFound (duplicateAnnotations (contextBy (now (table .entry)) (now (sheet .entry))) [] (annotationsOf (viewOf (now (sheet .entry)) a e))) (now (list .entry), counts)) ⌝ }
 {
-    let mut heads: [u16; 512] = [0; 512];
-    let mut links: [u16; 1024] = [0; 1024];
+    let mut slots: [u16; 1024] = [0; 1024];
     let mut counts = counts;
     let mut i = a;
     while i < e {
         // rule 22
-        let duplicate = is_duplicate_in_row(sheet, table, &mut heads, &mut links, a, i);
+        let duplicate = is_duplicate_in_row(sheet, table, &mut slots, a, i);
         let violation = Violation::error(sheet::span(sheet, i), Violation::DuplicateAnnotation);
         counts = diagnostic::push_if(list, counts, duplicate, violation);
         i += 1;

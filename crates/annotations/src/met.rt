@@ -1,17 +1,18 @@
-// The names that the annotations of a field have, in chains: for a long row of them.
+// The names that the annotations of a field have, in slots: for a long row of them.
 ghost use mathlib.Core.Path.{_≡_};
 ghost use Prim.Native.Nat.{_+_, _-_, _%_, _≤_, _<_};
 ghost use mathlib.Core.Bool.{true};
 ghost use Rattle.rules.specs.Words.{anyOf};
 ghost use Rattle.names.specs.View.{entryOf, idPart, contextBy};
-ghost use Rattle.annotations.specs.Chains.{hasKey, Chained};
+ghost use Rattle.annotations.specs.Slots.{hasKey, Slotted};
 ghost use Rattle.annotations.specs.Earlier.{isAnnotation, earlier};
+use sheet::kinds;
 
-// The bucket of a name.
-fn bucket(id: u16) -> usize
-    ensures { λ r. ⌜ (r ≡ id % 512) × (r < 512) ⌝ }
+// The slot of a name. The names of a sheet have slots of their own.
+fn slot(id: u16) -> usize
+    ensures { λ r. ⌜ (r ≡ id % 1024) × (r < 1024) ⌝ }
 {
-    (id % 512) as usize
+    (id % 1024) as usize
 }
 
 // The place, as a number of 64 bits.
@@ -29,46 +30,50 @@ fn short(place: usize) -> u16
     place as u16
 }
 
-// Whether an annotation from record `a` up to record `i` has that name.
+// Whether an annotation from record `a` up to record `i` has that name, by all of them.
+fn is_among(sheet: &[u8], table: &[u16; 5122], a: usize, i: usize, id: u16) -> bool
+    requires { ⌜ a ≤ i ⌝ }
+    ensures { λ r. ⌜ r ≡ hasKey (isAnnotation (now (sheet .entry))) (entryOf idPart (now (table .entry))) a id (i - a) ⌝ }
+{
+    let mut found = false;
+    let mut j = a;
+    while j < i {
+        found = ((sheet::kind(sheet, j) == kinds::ANNOTATION) & (id == names::id(table, j)))
+            | found;
+        j += 1;
+    }
+    found
+}
+
+// Whether an annotation from record `a` up to record `i` has that name, by its slot. All are asked where another name is the last in the slot.
 fn is_met(
     sheet: &[u8],
     table: &[u16; 5122],
-    heads: &[u16; 512],
-    links: &[u16; 1024],
+    slots: &[u16; 1024],
     a: usize,
     i: usize,
     id: u16,
 ) -> bool
-    requires { ⌜ Chained (isAnnotation (now sheet)) (entryOf idPart (now table)) a (now heads) (now links) i × (i ≤ 1024) ⌝ }
+    requires { ⌜ Slotted (isAnnotation (now sheet)) (entryOf idPart (now table)) a (now slots) i × (a ≤ i) ⌝ }
     ensures { λ r. ⌜ r ≡ hasKey (isAnnotation (now (sheet .entry))) (entryOf idPart (now (table .entry))) a id (i - a) ⌝ }
 {
-    let mut behind = wide(heads[bucket(id)]);
-    while a < behind {
-        let p = behind - 1;
-        if names::id(table, p) == id {
-            return true;
-        }
-        behind = wide(links[p]);
+    let behind = wide(slots[slot(id)]);
+    if behind <= a {
+        return false;
     }
-    false
+    if names::id(table, behind - 1) == id {
+        return true;
+    }
+    is_among(sheet, table, a, i, id)
 }
 
-// Whether an annotation from record `a` up to record `i` has the name of the annotation at record `i`, which is then in the chains.
-pub fn meet(
-    sheet: &[u8],
-    table: &[u16; 5122],
-    heads: &mut [u16; 512],
-    links: &mut [u16; 1024],
-    a: usize,
-    i: usize,
-) -> bool
-    requires { ⌜ Chained (isAnnotation (now sheet)) (entryOf idPart (now table)) a (now heads) (now links) i × (isAnnotation (now sheet) i ≡ true) × (a ≤ i) × (i < 1024) ⌝ }
-    ensures { λ r. ⌜ (r ≡ anyOf (contextBy (now (table .entry)) (now (sheet .entry)) .same i) (earlier (now (sheet .entry)) a i)) × Chained (isAnnotation (now (sheet .entry))) (entryOf idPart (now (table .entry))) a (now (heads .exit)) (now (links .exit)) (i + 1) ⌝ }
+// Whether an annotation from record `a` up to record `i` has the name of the annotation at record `i`, which is then in its slot.
+pub fn meet(sheet: &[u8], table: &[u16; 5122], slots: &mut [u16; 1024], a: usize, i: usize) -> bool
+    requires { ⌜ Slotted (isAnnotation (now sheet)) (entryOf idPart (now table)) a (now slots) i × (isAnnotation (now sheet) i ≡ true) × (a ≤ i) × (i < 1024) ⌝ }
+    ensures { λ r. ⌜ (r ≡ anyOf (contextBy (now (table .entry)) (now (sheet .entry)) .same i) (earlier (now (sheet .entry)) a i)) × Slotted (isAnnotation (now (sheet .entry))) (entryOf idPart (now (table .entry))) a (now (slots .exit)) (i + 1) ⌝ }
 {
     let id = names::id(table, i);
-    let met = is_met(sheet, table, heads, links, a, i, id);
-    let b = bucket(id);
-    links[i] = heads[b];
-    heads[b] = short(i + 1);
+    let met = is_met(sheet, table, slots, a, i, id);
+    slots[slot(id)] = short(i + 1);
     met
 }

@@ -9,7 +9,7 @@ ghost use Rattle.rules.specs.Rule.{foundIf};
 ghost use Rattle.rules.specs.Bodies.{fieldScheme, fieldListViolations};
 ghost use Rattle.names.specs.View.{viewAt, viewOf, contextBy};
 ghost use Rattle.diagnostic.specs.Push.{pushFound};
-ghost use Rattle.annotations.specs.Chains.{Ready};
+ghost use Rattle.annotations.specs.Slots.{Ready};
 ghost use Rattle.bodies.specs.Ordinal.{memberFound};
 ghost use Rattle.bodies.specs.Items.{fieldFound};
 ghost use Rattle.bodies.specs.declared.runs.Run.the-variants.{FieldItem};
@@ -135,19 +135,18 @@ pub fn check_field_at(
     Passed { counts, end }
 }
 
-// Adds what is wrong with the field list at records `a` up to `e`, by the chains of names lent for it.
+// Adds what is wrong with the field list at records `a` up to `e`, by the slots of names lent for it.
 pub fn check_message_body(
     sheet: &[u8],
     table: &[u16; 5122],
     list: &mut [u8],
     counts: Counts,
-    names: &mut [u16; 512],
-    name_links: &mut [u16; 1024],
+    names: &mut [u16; 1024],
     a: usize,
     e: usize,
 ) -> Counts
-    requires { ⌜ (a ≤ e) × (e ≤ 1024) × Ready (now names) (now «name_links») a ⌝ }
-    ensures { λ r. ⌜ _≡_ {A = List ℕ × Counts} (now (list .exit), r) (pushFound (fieldListViolations (contextBy (now (table .entry)) (now (sheet .entry))) (viewOf (now (sheet .entry)) a e)) (now (list .entry), counts)) × Ready (now (names .exit)) (now («name_links» .exit)) e ⌝ }
+    requires { ⌜ (a ≤ e) × (e ≤ 1024) × Ready (now names) a ⌝ }
+    ensures { λ r. ⌜ _≡_ {A = List ℕ × Counts} (now (list .exit), r) (pushFound (fieldListViolations (contextBy (now (table .entry)) (now (sheet .entry))) (viewOf (now (sheet .entry)) a e)) (now (list .entry), counts)) × Ready (now (names .exit)) e ⌝ }
 {
     let mut seen = Seen {
         ordinals: [0; 1024],
@@ -187,7 +186,7 @@ pub fn check_message_body(
             ordinal,
         );
         seen.len = meeting.len;
-        let renamed = meet_name(sheet, table, names, name_links, kinds::FIELD, a, i);
+        let renamed = meet_name(sheet, table, names, kinds::FIELD, a, i);
         let passed = check_field_at(
             sheet,
             table,
@@ -218,16 +217,6 @@ pub fn check_message(
     requires { ⌜ (a ≤ e) × (e ≤ 1024) ⌝ }
     ensures { λ r. ⌜ _≡_ {A = List ℕ × Counts} (now (list .exit), r) (pushFound (fieldListViolations (contextBy (now (table .entry)) (now (sheet .entry))) (viewOf (now (sheet .entry)) a e)) (now (list .entry), counts)) ⌝ }
 {
-    let mut names: [u16; 512] = [0; 512];
-    let mut name_links: [u16; 1024] = [0; 1024];
-    check_message_body(
-        sheet,
-        table,
-        list,
-        counts,
-        &mut names,
-        &mut name_links,
-        a,
-        e,
-    )
+    let mut names: [u16; 1024] = [0; 1024];
+    check_message_body(sheet, table, list, counts, &mut names, a, e)
 }

@@ -1,17 +1,16 @@
-// The names already met, by chains of the records that have them.
+// The names already met, in slots.
 ghost use mathlib.Core.Path.{_≡_};
 ghost use mathlib.Core.Bool.{true};
 ghost use Prim.Native.Nat.{_+_, _-_, _%_, _≤_, _<_};
-ghost use lib.ListN.{length, getD, set};
 ghost use Rattle.names.specs.View.{entryOf, idPart};
-ghost use Rattle.annotations.specs.Chains.{hasKey, Chained};
+ghost use Rattle.annotations.specs.Slots.{hasKey, Slotted};
 ghost use Rattle.bodies.specs.Met.{ofKind};
 
-// The bucket of a number.
-fn bucket(number: u64) -> usize
-    ensures { λ r. ⌜ (r ≡ number % 512) × (r < 512) ⌝ }
+// The slot of a name. The names of a sheet have slots of their own.
+fn slot(id: u16) -> usize
+    ensures { λ r. ⌜ (r ≡ id % 1024) × (r < 1024) ⌝ }
 {
-    (number % 512) as usize
+    (id % 1024) as usize
 }
 
 // The place, as a number of 64 bits.
@@ -29,56 +28,57 @@ fn short(place: usize) -> u16
     place as u16
 }
 
-// Puts record `i` first into the chain of its number's bucket.
-fn add(heads: &mut [u16; 512], links: &mut [u16; 1024], i: usize, number: u64)
-    requires { ⌜ (length (now heads) ≡ 512) × (length (now links) ≡ 1024) × (i < 1024) ⌝ }
-    ensures { λ r. ⌜ (now (heads .exit) ≡ set (now (heads .entry)) (number % 512) (i + 1)) × (now (links .exit) ≡ set (now (links .entry)) i (getD (now (heads .entry)) (number % 512) 0)) ⌝ }
+// Whether a record of that kind from record `a` up to record `i` has that name, by all of them.
+fn is_among(sheet: &[u8], table: &[u16; 5122], kind: u8, a: usize, i: usize, id: u16) -> bool
+    requires { ⌜ a ≤ i ⌝ }
+    ensures { λ r. ⌜ r ≡ hasKey (ofKind kind (now (sheet .entry))) (entryOf idPart (now (table .entry))) a id (i - a) ⌝ }
 {
-    let b = bucket(number);
-    links[i] = heads[b];
-    heads[b] = short(i + 1);
+    let mut found = false;
+    let mut j = a;
+    while j < i {
+        found = ((sheet::kind(sheet, j) == kind) & (id == names::id(table, j))) | found;
+        j += 1;
+    }
+    found
 }
 
-// Whether a record of that kind from record `a` up to record `i` has the name of that number.
+// Whether a record of that kind from record `a` up to record `i` has that name, by its slot. All are asked where another name is the last in the slot.
 fn has_name(
     sheet: &[u8],
     table: &[u16; 5122],
-    heads: &[u16; 512],
-    links: &[u16; 1024],
+    slots: &[u16; 1024],
     kind: u8,
     a: usize,
     i: usize,
     id: u16,
 ) -> bool
-    requires { ⌜ Chained (ofKind kind (now sheet)) (entryOf idPart (now table)) a (now heads) (now links) i × (i ≤ 1024) ⌝ }
+    requires { ⌜ Slotted (ofKind kind (now sheet)) (entryOf idPart (now table)) a (now slots) i × (a ≤ i) ⌝ }
     ensures { λ r. ⌜ r ≡ hasKey (ofKind kind (now (sheet .entry))) (entryOf idPart (now (table .entry))) a id (i - a) ⌝ }
 {
-    let mut behind = wide(heads[bucket(id as u64)]);
-    while a < behind {
-        let p = behind - 1;
-        if names::id(table, p) == id {
-            return true;
-        }
-        behind = wide(links[p]);
+    let behind = wide(slots[slot(id)]);
+    if behind <= a {
+        return false;
     }
-    false
+    if names::id(table, behind - 1) == id {
+        return true;
+    }
+    is_among(sheet, table, kind, a, i, id)
 }
 
-// Whether a record of that kind from record `a` up to record `i` has the name of record `i`, which is then in the chains.
+// Whether a record of that kind from record `a` up to record `i` has the name of record `i`, which is then in its slot.
 pub fn meet_name(
     sheet: &[u8],
     table: &[u16; 5122],
-    heads: &mut [u16; 512],
-    links: &mut [u16; 1024],
+    slots: &mut [u16; 1024],
     kind: u8,
     a: usize,
     i: usize,
 ) -> bool
-    requires { ⌜ Chained (ofKind kind (now sheet)) (entryOf idPart (now table)) a (now heads) (now links) i × (ofKind kind (now sheet) i ≡ true) × (i < 1024) ⌝ }
-    ensures { λ r. ⌜ (r ≡ hasKey (ofKind kind (now (sheet .entry))) (entryOf idPart (now (table .entry))) a (entryOf idPart (now (table .entry)) i) (i - a)) × Chained (ofKind kind (now (sheet .entry))) (entryOf idPart (now (table .entry))) a (now (heads .exit)) (now (links .exit)) (i + 1) ⌝ }
+    requires { ⌜ Slotted (ofKind kind (now sheet)) (entryOf idPart (now table)) a (now slots) i × (ofKind kind (now sheet) i ≡ true) × (a ≤ i) × (i < 1024) ⌝ }
+    ensures { λ r. ⌜ (r ≡ hasKey (ofKind kind (now (sheet .entry))) (entryOf idPart (now (table .entry))) a (entryOf idPart (now (table .entry)) i) (i - a)) × Slotted (ofKind kind (now (sheet .entry))) (entryOf idPart (now (table .entry))) a (now (slots .exit)) (i + 1) ⌝ }
 {
     let id = names::id(table, i);
-    let met = has_name(sheet, table, heads, links, kind, a, i, id);
-    add(heads, links, i, id as u64);
+    let met = has_name(sheet, table, slots, kind, a, i, id);
+    slots[slot(id)] = short(i + 1);
     met
 }

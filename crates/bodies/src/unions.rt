@@ -7,7 +7,7 @@ ghost use Rattle.rules.specs.Record.{valueIn, recordBytes};
 ghost use Rattle.rules.specs.Bodies.{fieldListViolations, unionViolations};
 ghost use Rattle.names.specs.View.{viewOf, contextBy};
 ghost use Rattle.diagnostic.specs.Push.{pushFound};
-ghost use Rattle.annotations.specs.Chains.{Ready};
+ghost use Rattle.annotations.specs.Slots.{Ready};
 ghost use Rattle.bodies.specs.Items.{variantFound};
 use crate::message::check_field_at;
 use crate::message::check_message_body;
@@ -23,27 +23,26 @@ use rules::Sheet;
 use rules::Violation;
 use sheet::kinds;
 
-// Adds what is wrong with the fields at records `a` up to `e` of a variant, by the chains of names lent for them. For a single field, before which nothing
+// Adds what is wrong with the fields at records `a` up to `e` of a variant, by the slots of names lent for them. For a single field, before which nothing
 // is met, no numbers are kept.
 fn check_fields(
     sheet: &[u8],
     table: &[u16; 5122],
     list: &mut [u8],
     counts: Counts,
-    names: &mut [u16; 512],
-    name_links: &mut [u16; 1024],
+    names: &mut [u16; 1024],
     a: usize,
     e: usize,
 ) -> Counts
-    requires { ⌜ (a ≤ e) × (e ≤ 1024) × Ready (now names) (now «name_links») a ⌝ }
-    ensures { λ r. ⌜ _≡_ {A = List ℕ × Counts} (now (list .exit), r) (pushFound (fieldListViolations (contextBy (now (table .entry)) (now (sheet .entry))) (viewOf (now (sheet .entry)) a e)) (now (list .entry), counts)) × Ready (now (names .exit)) (now («name_links» .exit)) e ⌝ }
+    requires { ⌜ (a ≤ e) × (e ≤ 1024) × Ready (now names) a ⌝ }
+    ensures { λ r. ⌜ _≡_ {A = List ℕ × Counts} (now (list .exit), r) (pushFound (fieldListViolations (contextBy (now (table .entry)) (now (sheet .entry))) (viewOf (now (sheet .entry)) a e)) (now (list .entry), counts)) × Ready (now (names .exit)) e ⌝ }
 {
     if e <= a {
         return counts;
     }
     let end = run_end(sheet, Run::FieldItem, a + 1, e);
     if (sheet::kind(sheet, a) != kinds::FIELD) | (end < e) {
-        return check_message_body(sheet, table, list, counts, names, name_links, a, e);
+        return check_message_body(sheet, table, list, counts, names, a, e);
     }
     let ordinal = sheet::value(sheet, a);
     let passed = check_field_at(
@@ -61,22 +60,21 @@ fn check_fields(
     passed.counts
 }
 
-// Adds what is wrong with the variant at record `i`, whose fields end at record `end`, by the chains of names lent for them.
+// Adds what is wrong with the variant at record `i`, whose fields end at record `end`, by the slots of names lent for them.
 fn check_variant(
     sheet: &[u8],
     table: &[u16; 5122],
     list: &mut [u8],
     counts: Counts,
-    names: &mut [u16; 512],
-    name_links: &mut [u16; 1024],
+    names: &mut [u16; 1024],
     i: usize,
     end: usize,
     ordinal: u64,
     tombstoned: bool,
     met: bool,
 ) -> Counts
-    requires { ⌜ (i < end) × (end ≤ 1024) × Ready (now names) (now «name_links») i × (ordinal ≡ valueIn (recordBytes (now sheet) i)) ⌝ }
-    ensures { λ r. ⌜ _≡_ {A = List ℕ × Counts} (now (list .exit), r) (pushFound (variantFound (now (table .entry)) (now (sheet .entry)) i end tombstoned met) (now (list .entry), counts)) × Ready (now (names .exit)) (now («name_links» .exit)) end ⌝ }
+    requires { ⌜ (i < end) × (end ≤ 1024) × Ready (now names) i × (ordinal ≡ valueIn (recordBytes (now sheet) i)) ⌝ }
+    ensures { λ r. ⌜ _≡_ {A = List ℕ × Counts} (now (list .exit), r) (pushFound (variantFound (now (table .entry)) (now (sheet .entry)) i end tombstoned met) (now (list .entry), counts)) × Ready (now (names .exit)) end ⌝ }
 {
     let rules = OrdinalRules {
         greatest: Sheet::MAX_FIELD_ORDINAL,
@@ -85,10 +83,10 @@ fn check_variant(
         duplicate: Violation::UnionOrdinalDuplicate,
     };
     let counts = check_ordinal(sheet, list, counts, i, ordinal, rules, tombstoned, met);
-    check_fields(sheet, table, list, counts, names, name_links, i + 1, end)
+    check_fields(sheet, table, list, counts, names, i + 1, end)
 }
 
-// Adds what is wrong with the union at records `a` up to `e`. The chains of its fields' names are made once, and serve one variant after the other.
+// Adds what is wrong with the union at records `a` up to `e`. The slots of its fields' names are made once, and serve one variant after the other.
 pub fn check_union(
     sheet: &[u8],
     table: &[u16; 5122],
@@ -114,8 +112,7 @@ pub fn check_union(
         e,
     );
     seen.len = tombstones;
-    let mut names: [u16; 512] = [0; 512];
-    let mut name_links: [u16; 1024] = [0; 1024];
+    let mut names: [u16; 1024] = [0; 1024];
     let mut counts = counts;
     let mut i = a;
     while i < e {
@@ -146,7 +143,6 @@ pub fn check_union(
             list,
             counts,
             &mut names,
-            &mut name_links,
             i,
             end,
             ordinal,

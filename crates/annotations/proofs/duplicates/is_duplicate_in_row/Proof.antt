@@ -1,12 +1,12 @@
--- Each test rules a repeat out, and after them the chains decide.
+-- Each test rules a repeat out, and after them the slots decide.
 use borrow.Author.Needs.{needs}
-use Rattle.annotations.proofs.Chains.{chained-other}
+use Rattle.annotations.proofs.Slots.{slotted-other}
 use Rattle.annotations.proofs.Views.{is-annotation, is-other}
 use Rattle.annotations.proofs.Repeats.{repeat-other, repeat-doc, repeat-found}
 use Rattle.annotations.proofs.duplicates.is_duplicate_in_row.Statement.{statement}
 use Rattle.annotations.proofs.duplicates.is_duplicate_in_row.Tie as tie
 
-ruleset laws = (needs, is-annotation, is-other, repeat-other, repeat-doc, repeat-found, chained-other)
+ruleset laws = (needs, is-annotation, is-other, repeat-other, repeat-doc, repeat-found, slotted-other)
 
 pub is-duplicate-in-row-spec : {M : Type 1} → statement M
 is-duplicate-in-row-spec =

@@ -1,6 +1,6 @@
--- The chains are new, and so have no record.
+-- The slots are new, and so have no record.
 use borrow.Author.Needs.{needs}
-use Rattle.annotations.proofs.Chains.{ready-new}
+use Rattle.annotations.proofs.Slots.{ready-new}
 use Rattle.bodies.proofs.message.check_message.Statement.{statement}
 use Rattle.bodies.proofs.message.check_message.Tie as tie
 

@@ -8,11 +8,11 @@ use Rattle.bodies.proofs.message.check_message_body.Statement.{statemen
 use Rattle.bodies.proofs.message.check_message_body.Tie as tie
 
 abbrev Inv-loop : tie.InvT-loop
-Inv-loop sheet table list₀ names₀ name-links₀ a e seen₀ marks₀ tombstones counts₀ i₀ list names name-links seen marks counts i =
-    FieldsKnown table sheet a e tombstones seen marks names name-links (list₀, counts₀) (list, counts) i
+Inv-loop sheet table list₀ names₀ a e seen₀ marks₀ tombstones counts₀ i₀ list names seen marks counts i =
+    FieldsKnown table sheet a e tombstones seen marks names (list₀, counts₀) (list, counts) i
 
 abbrev μ-loop : tie.MeasureT-loop
-μ-loop sheet table list₀ names₀ name-links₀ a e seen₀ marks₀ tombstones counts₀ i₀ list names name-links seen marks counts i = e - i
+μ-loop sheet table list₀ names₀ a e seen₀ marks₀ tombstones counts₀ i₀ list names seen marks counts i = e - i
 
 pub check-message-body-spec : {M : Type 1} → statement M
 check-message-body-spec =
@@ -21,17 +21,17 @@ check-message-body-spec =
     Inv-loop
     μ-loop
     (λ c κs. search needs)
-    (λ c. fields-none _ _ _ _ _ _ _ _ _ _ (c .before .before .before .before .before .pre .0) (c .before .before .before .before .before .pre .1) (c .before .before .before .before .before .pre .2) (c .collect .ensures))
+    (λ c. fields-none _ _ _ _ _ _ _ _ _ (c .before .before .before .before .before .pre .0) (c .before .before .before .before .before .pre .1) (c .before .before .before .before .before .pre .2) (c .collect .ensures))
     (λ c κs. search needs)
     (λ c κs. search needs)
     (λ c. search needs)
     (λ c. search needs)
-    (λ c. let w = c .before .before .before .before .before in fields-other _ _ _ _ _ _ _ _ _ _ _ _ _ _ (w .before .before .loop .inv) (w .before .loop-test .taken) (w .kind .ensures) (c .before .before .before .before .if1 .taken) (search needs) (c .before .before .check-invariant .ensures))
+    (λ c. let w = c .before .before .before .before .before in fields-other _ _ _ _ _ _ _ _ _ _ _ _ _ (w .before .before .loop .inv) (w .before .loop-test .taken) (w .kind .ensures) (c .before .before .before .before .if1 .taken) (search needs) (c .before .before .check-invariant .ensures))
     (λ c κs. search needs)
     (λ c κs. let w = c .before .before .before in (w .before .before .loop-test .taken, kind-is _ _ _ _ (w .before .kind .ensures) (w .if1 .left), c .before .before .value .ensures, w .before .before .before .loop .inv .2))
-    (λ c κs. let w = c .before .before .before .before .before .before in (w .before .before .before .loop .inv .3, kind-is _ _ _ _ (w .before .kind .ensures) (w .if1 .left), omega (arith, w .before .before .loop-test .taken, w .before .before .before .before .before .before .before .before .before .pre .1)))
-    (λ c κs. let w = c .before .before .before .before .before .before .before in (w .before .before .before .loop-test .taken, w .value .ensures))
-    (λ c. let w = c .before .before .before .before .before .before .before .before .before .before .before .before .before .before in omega (arith, w .loop-test .taken, c .before .before .before .check-field-at .ensures .1 .2 (omega (arith, w .loop-test .taken))))
-    (λ c. let w = c .before .before .before .before .before .before .before .before .before .before .before in fields-field _ _ _ _ _ _ _ _ _ _ _ _ _ _ _ _ _ _ _ _ _ _ (w .before .before .before .before .loop .inv) (w .before .before .before .loop-test .taken) (w .before .before .kind .ensures) (w .before .if1 .left) (w .value .ensures) (c .before .before .before .before .before .before .before .before .meet .ensures) (c .before .before .before .before .before .meet-name .ensures) (c .before .before .before .check-field-at .ensures .1) (search (needs, w .before .before .before .before .loop .inv)) (c .before .before .before .check-field-at .ensures .0))
+    (λ c κs. let w = c .before .before .before .before .before in (w .before .before .before .loop .inv .3, kind-is _ _ _ _ (w .before .kind .ensures) (w .if1 .left), w .before .before .before .loop .inv .2 .2, omega (arith, w .before .before .loop-test .taken, w .before .before .before .before .before .before .before .before .before .pre .1)))
+    (λ c κs. let w = c .before .before .before .before .before .before in (w .before .before .before .loop-test .taken, w .value .ensures))
+    (λ c. let w = c .before .before .before .before .before .before .before .before .before .before .before .before .before in omega (arith, w .loop-test .taken, c .before .before .before .check-field-at .ensures .1 .2 (omega (arith, w .loop-test .taken))))
+    (λ c. let w = c .before .before .before .before .before .before .before .before .before .before in fields-field _ _ _ _ _ _ _ _ _ _ _ _ _ _ _ _ _ _ _ _ (w .before .before .before .before .loop .inv) (w .before .before .before .loop-test .taken) (w .before .before .kind .ensures) (w .before .if1 .left) (w .value .ensures) (c .before .before .before .before .before .before .before .meet .ensures) (c .before .before .before .before .before .meet-name .ensures) (c .before .before .before .check-field-at .ensures .1) (search (needs, w .before .before .before .before .loop .inv)) (c .before .before .before .check-field-at .ensures .0))
     (λ c. search needs)
-    (λ c. fields-end _ _ _ _ _ _ _ _ _ _ _ _ (c .before .loop .inv) (c .loop-test .left)))
+    (λ c. fields-end _ _ _ _ _ _ _ _ _ _ _ (c .before .loop .inv) (c .loop-test .left)))

@@ -1,7 +1,7 @@
--- The walk says whether the name is met, and the record is then the first of its chain.
+-- The slot says whether the name is met, and the record is then the last there.
 use mathlib.Core.Path.{sym}
 use borrow.Author.Needs.{needs}
-use Rattle.annotations.proofs.Chains.{chained-sizes, chained-added}
+use Rattle.annotations.proofs.Slots.{slotted-added}
 use Rattle.bodies.proofs.met.meet_name.Statement.{statement}
 use Rattle.bodies.proofs.met.meet_name.Tie as tie
 
@@ -12,5 +12,10 @@ meet-name-spec =
     (λ c κs. search needs)
     (λ c κs. search needs)
     (λ c. search needs)
-    (λ c κs. let sizes = chained-sizes _ _ _ _ _ _ (c .before .before .before .before .before .before .before .pre .0) in (sizes .0, sizes .1, c .before .before .before .before .before .before .before .pre .2))
-    (λ c. (rw (sym (c .before .before .before .before .before .before .id .ensures)) (c .before .before .before .has-name .ensures), chained-added _ _ _ _ _ _ _ _ _ (c .before .before .before .before .before .before .before .before .pre .1) (c .before .before .before .before .before .before .id .ensures) (c .before .before .before .before .before .before .before .before .pre .2) (c .add .ensures) (c .before .before .before .before .before .before .before .before .pre .0))))
+    (λ c κs. search needs)
+    (λ c κs. search needs)
+    (λ c. search needs)
+    (λ c. search needs)
+    (λ c.
+    let start = c .before .before .before .before in
+    (rw (sym (start .id .ensures)) (c .before .before .has-name .ensures), slotted-added _ _ _ _ _ _ _ _ (start .before .before .pre .1) (start .id .ensures) (c .slot .ensures .0) (c .before .short .ensures) (start .before .before .pre .0))))

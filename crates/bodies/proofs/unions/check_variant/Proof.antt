@@ -1,6 +1,6 @@
 -- The rules of a variant's ordinal, and then its fields.
 use borrow.Author.Needs.{needs}
-use Rattle.annotations.proofs.Chains.{ready-later}
+use Rattle.annotations.proofs.Slots.{ready-later}
 use Rattle.bodies.proofs.Variants.{variant-found}
 use Rattle.bodies.proofs.unions.check_variant.Statement.{statement}
 use Rattle.bodies.proofs.unions.check_variant.Tie as tie
@@ -11,6 +11,6 @@ check-variant-spec =
     (tie.spec
     (λ c κs. search needs)
     (λ c. search needs)
-    (λ c κs. (search needs, search needs, ready-later _ _ _ _ (c .before .before .before .before .before .before .before .before .before .pre .2) (search needs)))
+    (λ c κs. (search needs, search needs, ready-later _ _ _ (c .before .before .before .before .before .before .before .before .pre .2) (search needs)))
     (λ c. search needs)
     (λ c. (search variant-found, search needs)))
