@@ -35,9 +35,6 @@ module _ (sheet : List ℕ) (a e : ℕ) where
   unfolding NoneAfter
   after-past h = annotations-none sheet (a + 1) e (omega arith)
 
-  pub after-found : false ≡ true → NoneAfter sheet a e
-  after-found h = absurd (let z : _≡_ {A = ℕ} 0 1 = cc in omega arith)
-
 -- one annotation is neither two words, nor met before
 module _ (ctx : ValidationContext ℕ Span) where
   one-combined : (x : Item (Rec ℕ Span)) → combinedViolations ctx (x ∷ []) ≡ []

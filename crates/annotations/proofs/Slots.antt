@@ -3,7 +3,7 @@ use Prim.Native.Nat.{ℕ, zero, suc, _+_, _-_, _%_, _≤_, _<_}
 use native.Mathlib.Decide.{ℕ-discrete}
 use native.Mathlib.Omega.{arith}
 use mathlib.Core.Path.{_≡_, refl, sym, ap, _∙_}
-use mathlib.Core.Bool.{Bool, true, false, _&&_, _||_, true≢false}
+use mathlib.Core.Bool.{Bool, true, false, _&&_, _||_, or-true, true≢false}
 use mathlib.Core.List.{List}
 use lib.ListN.{getD, set, replicate, length-set, length-replicate}
 use lib.Seq.{getD-set-same, getD-set-other}
@@ -77,10 +77,6 @@ module _ (on : ℕ → Bool) (key : ℕ → ℕ) (a : ℕ) where
   has-among v zero m h t k = absurd (omega arith)
   has-among v (suc n) m h t k = go (has-among v n m) (ℕ-discrete m n)
     where
-      or-true : (b : Bool) → (b || true) ≡ true
-      or-true true = refl
-      or-true false = refl
-
       go : (m < n → on (a + m) ≡ true → key (a + m) ≡ v → hasKey on key a v n ≡ true) → Dec (m ≡ n) → hasKey on key a v (suc n) ≡ true
       go ih (yes same) = has-here v n (ap (λ x. on (a + x)) (sym same) ∙ t) (ap (λ x. key (a + x)) (sym same) ∙ k)
       go ih (no differ) = rw (ih (omega arith) t k) (or-true (on (a + n) && eqb v (key (a + n))))

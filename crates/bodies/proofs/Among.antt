@@ -2,7 +2,7 @@
 use Prim.Native.Nat.{ℕ, _+_, _-_, _≤_, _<_}
 use native.Mathlib.Omega.{arith}
 use mathlib.Core.Path.{_≡_, refl, sym, ap, _∙_}
-use mathlib.Core.Bool.{Bool, true, false, _&&_, _||_}
+use mathlib.Core.Bool.{Bool, true, false, _&&_, _||_, or-false}
 use mathlib.Core.List.{List, [], _∷_, _++_}
 use lib.Dec.{eqb}
 use Rattle.rules.specs.declared.span.Span.{Span}
@@ -62,10 +62,6 @@ module _ (sheet : List ℕ) (kind a e x : ℕ) where
   unfolding anyOf valuesOf select
   asked-all found i asked h =
       let last : i ≡ e = omega (arith, asked .1) in (
-        or-none found ∙ ap (λ rs. found || member x (valuesOf kind rs)) (sym (view-none sheet i e h)) ∙ asked .3,
+        sym (or-false found) ∙ ap (λ rs. found || member x (valuesOf kind rs)) (sym (view-none sheet i e h)) ∙ asked .3,
         asked .2 ∙ ap (λ j. member x (valuesBefore kind sheet a j)) last,
       )
-    where
-      or-none : (b : Bool) → b ≡ (b || false)
-      or-none true = refl
-      or-none false = refl

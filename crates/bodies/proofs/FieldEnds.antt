@@ -138,9 +138,6 @@ module _ (sheet : List ℕ) (a e k : ℕ) (h : a < e) (read : k ≡ kindIn (reco
   unfolding Bare viewAt
   bare-next n next starts = (h, leaf-read, λ lt. rw (← next) starts)
 
-pub bare-not : (sheet : List ℕ) (a e : ℕ) → false ≡ true → Bare sheet a e
-bare-not sheet a e h = absurd (let z : _≡_ {A = ℕ} 0 1 = cc in omega arith)
-
 -- such a field starts and ends where all fields do
 module _ (sheet : List ℕ) (a e : ℕ) (bare : Bare sheet a e) where
   pub bare-fits : a < e

@@ -1,7 +1,7 @@
 -- Four optionals are told by the first byte of each, and four after four are a run of them.
 use Prim.Native.Nat.{ℕ, _+_, _*_, _<_, _≤_}
 use mathlib.Core.Path.{_≡_, _∙_}
-use mathlib.Core.Bool.{true, false}
+use mathlib.Core.Bool.{true}
 use mathlib.Core.List.{List}
 use native.Mathlib.Decide.{ℕ-discrete}
 use native.Mathlib.Omega.{arith}
@@ -13,7 +13,6 @@ use Rattle.rules.specs.Kind
 use Rattle.rules.specs.Record.{is, recordBytes, kindIn}
 use Rattle.names.specs.View.{viewAt}
 use Rattle.bodies.specs.Runs.{AllIn}
-use Rattle.bodies.proofs.FieldEnds.{all-on}
 
 -- a record's kind is its first byte
 first-byte : (sheet : List ℕ) (i at : ℕ) → at ≡ i * 32 → kindIn (recordBytes sheet i) ≡ getD sheet at 0
@@ -39,13 +38,7 @@ module _ (sheet : List ℕ) (i : ℕ) where
       by j l lt (no n₁) (no n₂) (no n₃) =
           optional-byte sheet j (i * 32 + 32 + 32 + 32) (omega arith) (eqb-true (getD sheet (i * 32 + 32 + 32 + 32) 0) Kind.Optional h₄)
 
-  pub four-not : false ≡ true → AllIn (is Kind.Optional) sheet i (i + 4)
-  four-not h = absurd (let z : _≡_ {A = ℕ} 0 1 = cc in omega arith)
-
--- none, and four more
+-- none yet
 pub fours-none : (sheet : List ℕ) (a : ℕ) → AllIn (is Kind.Optional) sheet a a
 unfolding AllIn
 fours-none sheet a = λ j l lt. absurd (omega arith)
-
-pub fours-next : (sheet : List ℕ) (a i : ℕ) → AllIn (is Kind.Optional) sheet a i → AllIn (is Kind.Optional) sheet i (i + 4) → AllIn (is Kind.Optional) sheet a (i + 4)
-fours-next sheet a i front four = all-on (is Kind.Optional) sheet a i (i + 4) front four

@@ -2,7 +2,7 @@
 use Prim.Native.Nat.{ℕ, zero, suc, _<_}
 use native.Mathlib.Omega.{arith}
 use mathlib.Core.Path.{_≡_, refl, sym, ap, ap₂, _∙_}
-use mathlib.Core.Bool.{Bool, true, false, not, _&&_}
+use mathlib.Core.Bool.{Bool, true, false, not, _&&_, and-false}
 use mathlib.Core.List.{List, [], _∷_, map-id}
 use mathlib.Core.Option.{Option, some, none}
 use lib.ListN.{length, getD, drop}
@@ -59,11 +59,7 @@ module _ {P : Type 0} where
   pub declaration-none : (rs : List (Rec (List ℕ) P)) (r : Rec (List ℕ) P) → isNamed r ≡ false → declarationIn rs r ≡ 0
   unfolding declarationIn sameName
   declaration-none rs r h =
-      place-never _ (λ q. ap (λ b. is Kind.Declaration q && (b && isNamed q && sameBytes (q .name) (r .name))) h ∙ neither (is Kind.Declaration q)) rs
-    where
-      neither : (b : Bool) → (b && false) ≡ false
-      neither true = refl
-      neither false = refl
+      place-never _ (λ q. ap (λ b. is Kind.Declaration q && (b && isNamed q && sameBytes (q .name) (r .name))) h ∙ and-false (is Kind.Declaration q)) rs
 
   -- the first declaration of the name, from a list that begins with it
   abbrev pub declaredFirst : List (Rec (List ℕ) P) → Option (Declared (List ℕ) P)

@@ -1,7 +1,9 @@
 -- The loop's invariant: the annotations from `i` on are all after the first record, since no record between is one.
 use Prim.Native.Nat.{_-_}
+use mathlib.Core.Path.{sym}
+use mathlib.Core.Bool.{true≢false}
 use borrow.Author.Needs.{needs}
-use Rattle.annotations.proofs.Single.{Walked, after-next, after-end, after-past, after-found}
+use Rattle.annotations.proofs.Single.{Walked, after-next, after-end, after-past}
 use Rattle.annotations.proofs.field.is_single.Statement.{statement}
 use Rattle.annotations.proofs.field.is_single.Tie as tie
 
@@ -11,7 +13,7 @@ Inv-loop sheet a e i₀ i = Walked sheet a e i
 abbrev μ-loop : tie.MeasureT-loop
 μ-loop sheet a e i₀ i = e - i
 
-ruleset laws = (needs, after-next, after-end, after-past, after-found)
+ruleset laws = (needs, after-next, after-end, after-past)
 
 pub is-single-spec : {M : Type 1} → statement M
 is-single-spec =
@@ -23,7 +25,7 @@ is-single-spec =
     (λ c. search needs)
     (λ c. search needs)
     (λ c κs. search needs)
-    (λ c. search laws)
+    (λ c h. absurd (true≢false (sym h)))
     (λ c. search needs)
     (λ c. search needs)
     (λ c. search laws)

@@ -1,10 +1,10 @@
 -- Each first byte is read in turn.
+use mathlib.Core.Path.{sym}
+use mathlib.Core.Bool.{true≢false}
 use borrow.Author.Needs.{needs}
-use Rattle.bodies.proofs.Fours.{four-not, four-read}
+use Rattle.bodies.proofs.Fours.{four-read}
 use Rattle.bodies.proofs.runs.are_optionals.Statement.{statement}
 use Rattle.bodies.proofs.runs.are_optionals.Tie as tie
-
-ruleset laws = (needs, four-not, four-read)
 
 pub are-optionals-spec : {M : Type 1} → statement M
 are-optionals-spec =
@@ -12,13 +12,13 @@ are-optionals-spec =
     (tie.spec
     (λ c. search needs)
     (λ c. search needs)
-    (λ c. search four-not)
+    (λ c h. absurd (true≢false (sym h)))
     (λ c. search needs)
     (λ c. search needs)
-    (λ c. search four-not)
+    (λ c h. absurd (true≢false (sym h)))
     (λ c. search needs)
     (λ c. search needs)
-    (λ c. search four-not)
+    (λ c h. absurd (true≢false (sym h)))
     (λ c. search needs)
     (λ c. search needs)
-    (λ c. λ h. search laws))
+    (λ c. λ h. search (needs, four-read)))

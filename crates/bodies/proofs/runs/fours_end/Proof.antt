@@ -7,7 +7,8 @@ use borrow.Author.Tests.{not-false}
 use Rattle.rules.specs.Kind
 use Rattle.rules.specs.Record.{is}
 use Rattle.bodies.specs.Runs.{AllIn}
-use Rattle.bodies.proofs.Fours.{fours-none, fours-next}
+use Rattle.bodies.proofs.FieldEnds.{all-on}
+use Rattle.bodies.proofs.Fours.{fours-none}
 use Rattle.bodies.proofs.runs.fours_end.Statement.{statement}
 use Rattle.bodies.proofs.runs.fours_end.Tie as tie
 
@@ -34,5 +35,5 @@ fours-end-spec =
     (λ c.
     let inv = c .before .before .before .loop .inv in
     let fits = inv .2 (omega arith) in
-    (omega arith, omega arith, λ h. omega arith, fours-next _ _ _ (inv .3) (c .before .are-optionals .ensures (not-false _ (c .if1 .left)))))
+    (omega arith, omega arith, λ h. omega arith, all-on _ _ _ _ _ (inv .3) (c .before .are-optionals .ensures (not-false _ (c .if1 .left)))))
     (λ c. search needs))
