@@ -94,7 +94,7 @@ module _ (rs : List (Rec (List ℕ) Span)) where
       ∷ (λ i r. declarationIn rs r)
       ∷ (λ i r. importIn rs r)
       ∷ (λ i r. targetIn rs r)
-      ∷ (λ i r. numberIf (isNamed r) (codeOf (r .name)))
+      ∷ (λ i r. numberIf (isNamed r) (codeOf (r .kind) (r .name)))
       ∷ []
 
   -- the numbers behind the parts

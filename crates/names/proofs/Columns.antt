@@ -91,4 +91,4 @@ module _ (sheet names : List ℕ) where
 
   pub length-codes : length (codes sheet names) ≡ 1024
   unfolding codes
-  length-codes = length-column (λ i r. numberIf (isNamed r) (codeOf (r .name))) (known sheet names)
+  length-codes = length-column (λ i r. numberIf (isNamed r) (codeOf (r .kind) (r .name))) (known sheet names)

@@ -8,7 +8,7 @@ use mathlib.Core.List.{List}
 use Rattle.rules.specs.declared.span.Span.{Span}
 use Rattle.rules.specs.Words.{sameBytes}
 use Rattle.rules.specs.Record.{Rec}
-use Rattle.names.specs.NameTable.{placeOf, isNamed, sameName, idIn}
+use Rattle.names.specs.NameTable.{placeOf, isKeyed, sameName, idIn}
 use Rattle.names.specs.Parts.{known, knownCount, recordOf}
 use Rattle.names.proofs.FirstPlaces.{place-passes, place-before}
 use Rattle.names.proofs.Known.{length-known, known-at}
@@ -26,29 +26,29 @@ module _ (sheet names : List ℕ) where
   idAt i = idIn rs i (at i)
 
   -- the place of the first record with the name
-  first-place : (i : ℕ) → i < knownCount sheet → isNamed (at i) ≡ true → placeOf (sameName (at i)) rs ≡ suc (idAt i)
+  first-place : (i : ℕ) → i < knownCount sheet → isKeyed (at i) ≡ true → placeOf (sameName (at i)) rs ≡ suc (idAt i)
   first-place i h named =
       let d : Rec (List ℕ) Span = at i in
       let here = known-at sheet names i d h in
       rw here at (id-place rs d i (rw length-known h) (rw here named))
 
   -- a record without a name is its own
-  pub id-unnamed : (i : ℕ) → isNamed (at i) ≡ false → idAt i ≡ i
+  pub id-unnamed : (i : ℕ) → isKeyed (at i) ≡ false → idAt i ≡ i
   unfolding idIn
   id-unnamed i f = rw (unnamed-place (at i) f rs, idIn)
 
   -- records with the same name have the same id
   pub id-shared :
-      (i j : ℕ) → i < knownCount sheet → j < knownCount sheet → isNamed (at i) ≡ true → sameName (at i) (at j) ≡ true → idAt i ≡ idAt j
+      (i j : ℕ) → i < knownCount sheet → j < knownCount sheet → isKeyed (at i) ≡ true → sameName (at i) (at j) ≡ true → idAt i ≡ idAt j
   unfolding sameName
   id-shared i j h l named same =
       let tells = same-tells (at i) (at j) same in
       let alike : placeOf (sameName (at i)) rs ≡ placeOf (sameName (at j)) rs =
-      λ k. placeOf (λ q. (named ∙ sym (tells .1)) k && isNamed q && sameBytes (q .name) (sym (tells .2) k)) rs in
+      λ k. placeOf (λ q. (named ∙ sym (tells .1)) k && isKeyed q && sameBytes (q .name) (sym (tells .2) k)) rs in
       let ids = sym (first-place i h named) ∙ alike ∙ first-place j l (tells .1) in
       omega arith
 
-  module _ (i : ℕ) (h : i < knownCount sheet) (named : isNamed (at i) ≡ true) where
+  module _ (i : ℕ) (h : i < knownCount sheet) (named : isKeyed (at i) ≡ true) where
     -- the id is that of a record with the name
     pub id-known : idAt i < knownCount sheet
     id-known = rw length-known at (place-passes (sameName (at i)) (at i) rs (idAt i) (first-place i h named) .0)

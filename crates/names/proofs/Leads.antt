@@ -11,14 +11,14 @@ use lib.Seq.{getD-set-same, getD-set-other}
 use Rattle.rules.specs.declared.span.Span.{Span}
 use Rattle.rules.specs.Words.{sameBytes}
 use Rattle.rules.specs.Record.{Rec, decode, recordBytes, nameIn}
-use Rattle.names.specs.NameTable.{isNamed, sameName}
+use Rattle.names.specs.NameTable.{isNamed, isKeyed, sameName}
 use Rattle.names.specs.Parts.{knownCount, recordOf}
 use Rattle.names.specs.Buckets.{bucketOf, Lead, LastLead, Chained}
 use Rattle.names.proofs.Columns.{zeros-at}
 use Rattle.names.proofs.Known.{known-few}
-use Rattle.names.proofs.Numbers.{whole-known, names-compared}
+use Rattle.names.proofs.Numbers.{whole-known, keyed-named, names-compared}
 use Rattle.names.proofs.SameIds.{same-tells}
-use Rattle.names.proofs.Firsts.{idAt, id-known, id-same-name, id-within, id-shared}
+use Rattle.names.proofs.Firsts.{idAt, id-unnamed, id-known, id-same-name, id-within, id-shared}
 
 module _ (sheet names : List ℕ) where
   abbrev at : ℕ → Rec (List ℕ) Span
@@ -31,10 +31,10 @@ module _ (sheet names : List ℕ) where
   bucketAt i = bucketOf (at i .name)
 
   -- a first record with the name of record i is that of its id
-  pub lead-found : (b i k : ℕ) → i < knownCount sheet → isNamed (at i) ≡ true → Lead sheet names b k → sameName (at i) (at k) ≡ true → k ≡ id i
+  pub lead-found : (b i k : ℕ) → i < knownCount sheet → isKeyed (at i) ≡ true → Lead sheet names b k → sameName (at i) (at k) ≡ true → k ≡ id i
   lead-found b i k h named lead same = sym (id-shared sheet names i k h (lead .known-record) named same ∙ lead .first)
 
-  module _ (i : ℕ) (h : i < knownCount sheet) (named : isNamed (at i) ≡ true) where
+  module _ (i : ℕ) (h : i < knownCount sheet) (named : isKeyed (at i) ≡ true) where
     -- the record of the id is one
     id-leads : Lead sheet names (bucketAt i) (id i)
     id-leads =
@@ -78,7 +78,7 @@ module _ (sheet names : List ℕ) where
   pub walk-named : (i place : ℕ) → Sought i place → (place ≡ 0 → ⊥) → (place - 1 < length sheet / 32) × (isNamed (at (place - 1)) ≡ true)
   walk-named i place s some =
       let here = s .leads (place - 1) (omega arith) in
-      (whole-known sheet (place - 1) (knownCount sheet) refl (here .known-record), here .named)
+      (whole-known sheet (place - 1) (knownCount sheet) refl (here .known-record), keyed-named (at (place - 1)) (here .named))
 
   -- a record of the chain with another name is passed
   pub sought-next :
@@ -98,7 +98,7 @@ module _ (sheet names : List ℕ) where
           omega arith
 
   -- at the chain's end there is none
-  pub walk-ended : (i place : ℕ) → i < knownCount sheet → isNamed (at i) ≡ true → Sought i place → place ≡ 0 → i ≡ id i
+  pub walk-ended : (i place : ℕ) → i < knownCount sheet → isKeyed (at i) ≡ true → Sought i place → place ≡ 0 → i ≡ id i
   walk-ended i place h named s e = lead-none i h named (λ j l lead same. let b = s .ahead j l lead same in omega arith)
 
   -- a record that is no first one of the bucket leaves the chain's last as it was
@@ -180,7 +180,7 @@ module _ (sheet names : List ℕ) where
       }
 
   -- one step of a walk along the chain of the bucket of record i, at record k
-  module _ (i : ℕ) (h : i < knownCount sheet) (named : isNamed (at i) ≡ true) (place : ℕ) (sought : Sought i place)
+  module _ (i : ℕ) (h : i < knownCount sheet) (named : isKeyed (at i) ≡ true) (place : ℕ) (sought : Sought i place)
       (some : place ≡ 0 → ⊥) (same : Bool) (a b : List ℕ) (compared : same ≡ sameBytes a b)
       (theirs : a ≡ nameIn names (recordBytes sheet (place - 1))) (ours : b ≡ nameIn names (recordBytes sheet i)) where
     here : Lead sheet names (bucketAt i) (place - 1)
@@ -213,19 +213,23 @@ module _ (sheet names : List ℕ) where
 
   -- what record i adds to the chains
   module _ (heads links : List ℕ) (i : ℕ) (h : i < knownCount sheet) (few : i < 1024) (chained : Chained sheet names heads links i) where
-    pub added-unnamed : isNamed (at i) ≡ false → Chained sheet names heads links (i + 1)
+    pub added-unnamed : isKeyed (at i) ≡ false → Chained sheet names heads links (i + 1)
     added-unnamed f =
         chained-kept heads links i chained (λ b lead.
         let t = lead .named in
         let z : _≡_ {A = ℕ} 0 1 = cc in
         omega arith)
 
+    -- a record whose name is not compared is its own, and adds nothing
+    pub added-none : isKeyed (at i) ≡ false → (i ≡ id i) × (i ≤ i) × Chained sheet names heads links (i + 1)
+    added-none f = (sym (id-unnamed sheet names i f), omega arith, added-unnamed f)
+
     module _ (found : ℕ) (hf : found ≡ id i) where
       pub added-old : (found ≡ i → ⊥) → Chained sheet names heads links (i + 1)
       added-old old = chained-kept heads links i chained (λ b lead. old (hf ∙ lead .first))
 
       pub added-new :
-          (b p : ℕ) → isNamed (at i) ≡ true → b ≡ bucketAt i → b < 1024 → found ≡ i → p ≡ i + 1 →
+          (b p : ℕ) → isKeyed (at i) ≡ true → b ≡ bucketAt i → b < 1024 → found ≡ i → p ≡ i + 1 →
           Chained sheet names (set heads b p) (set links i (getD heads b 0)) (i + 1)
       added-new b p named eb hb new ep =
           let lead : Lead sheet names b i = record { known-record = h; named = named; bucket = sym eb; first = sym hf ∙ new } in

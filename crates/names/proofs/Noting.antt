@@ -15,11 +15,13 @@ use Rattle.rules.specs.declared.span.Span.{Span}
 use Rattle.rules.specs.Kind
 use Rattle.rules.specs.Words.{numberIf, anyOf}
 use Rattle.rules.specs.Record.{Rec, decode, is, kindIn, recordBytes}
-use Rattle.names.specs.NameTable.{placeOf, isNamed, idIn}
+use Rattle.rules.specs.Asked.{isCompared}
+use Rattle.names.specs.NameTable.{placeOf, isNamed, isKeyed, idIn}
 use Rattle.names.specs.Notes.{hasId, setFirst, declarationNote, importNote, Read}
 use Rattle.names.specs.Parts.{known, knownCount, recordOf}
 use Rattle.names.proofs.FirstPlaces.{oneOn}
 use Rattle.names.proofs.Known.{length-known, known-at}
+use Rattle.names.proofs.Numbers.{kind-tested}
 use Rattle.names.proofs.SameIds.{has-id}
 use Rattle.names.proofs.Stored.{part-same, part-set, part-ahead, part-behind}
 
@@ -108,10 +110,10 @@ module _ (sheet names : List ℕ) (m : ℕ) (h : m < knownCount sheet) where
   import-kept k f = sym (import-more k ∙ rw f)
 
   -- what the record says of the name with id k
-  has-test : (kind k : ℕ) → hasId kind rs k r ≡ ((is kind r && isNamed r) && eqb (idIn rs m r) k)
+  has-test : (kind k : ℕ) → hasId kind rs k r ≡ ((is kind r && isKeyed r) && eqb (idIn rs m r) k)
   has-test kind k = rw (← known-at sheet names m r h) (has-id rs r m (rw length-known h) kind k)
 
-  pub unnamed-silent : isNamed r ≡ false → (kind k : ℕ) → hasId kind rs k r ≡ false
+  pub unnamed-silent : isKeyed r ≡ false → (kind k : ℕ) → hasId kind rs k r ≡ false
   unnamed-silent f kind k = has-test kind k ∙ rw (f, and-false)
 
   pub kind-silent : (kind : ℕ) → is kind r ≡ false → (k : ℕ) → hasId kind rs k r ≡ false
@@ -120,7 +122,7 @@ module _ (sheet names : List ℕ) (m : ℕ) (h : m < knownCount sheet) where
   other-silent : (kind k id : ℕ) → id ≡ idIn rs m r → (id ≡ k → ⊥) → hasId kind rs k r ≡ false
   other-silent kind k id e differ = has-test kind k ∙ rw (ne-eqb (idIn rs m r) k (λ same. differ (e ∙ same)), and-false)
 
-  says : (kind id : ℕ) → is kind r ≡ true → isNamed r ≡ true → id ≡ idIn rs m r → hasId kind rs id r ≡ true
+  says : (kind id : ℕ) → is kind r ≡ true → isKeyed r ≡ true → id ≡ idIn rs m r → hasId kind rs id r ≡ true
   says kind id f named e = has-test kind id ∙ rw (f, named, eq-eqb (idIn rs m r) id (sym e))
 
   module _ (t : List ℕ) (a : ℕ) (before : Read sheet names t a m) where
@@ -136,7 +138,7 @@ module _ (sheet names : List ℕ) (m : ℕ) (h : m < knownCount sheet) where
           codes-part = before .codes-part;
         }
 
-    module _ (id : ℕ) (small : id < 1024) (named : isNamed r ≡ true) (e : id ≡ idIn rs m r) where
+    module _ (id : ℕ) (small : id < 1024) (named : isKeyed r ≡ true) (e : id ≡ idIn rs m r) where
       pub noted-declaration :
           is Kind.Declaration r ≡ true → is Kind.ImportedName r ≡ false → (t′ : List ℕ) → t′ ≡ setFirst t (1024 + id) (m + 1) →
           Read sheet names t′ a (m + 1)
@@ -190,6 +192,9 @@ module _ (sheet names : List ℕ) (m : ℕ) (h : m < knownCount sheet) where
 
   -- the record's kind, as it is read
   module _ (kind : ℕ) (e : kind ≡ kindIn (recordBytes sheet m)) where
+    pub kind-keyed : isNamed r ≡ true → (k : ℕ) → isCompared k ≡ true → kind ≡ k → isKeyed r ≡ true
+    kind-keyed named k compared f = kind-tested sheet names m named kind e isCompared true (sym (ap isCompared f ∙ compared))
+
     pub kind-is : (k : ℕ) → kind ≡ k → is k r ≡ true
     unfolding recordOf decode
     kind-is k f = eq-eqb (kindIn (recordBytes sheet m)) k (sym e ∙ f)

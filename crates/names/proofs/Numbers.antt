@@ -1,8 +1,8 @@
 -- What code reads and finds of a record is what the definitions say of it: each law takes what was read and what the tests said at one
 -- `return`.
 use Prim.Native.Nat.{ℕ, _+_, _-_, _*_, _/_, _≤_, _<_}
-use mathlib.Core.Path.{_≡_, _∙_, sym}
-use mathlib.Core.Bool.{Bool, true, false}
+use mathlib.Core.Path.{_≡_, refl, _∙_, sym}
+use mathlib.Core.Bool.{Bool, true, false, _&&_, true≢false}
 use mathlib.Core.List.{List}
 use native.Mathlib.Omega.{arith}
 use lib.ListN.{length, getD, take, drop}
@@ -11,9 +11,10 @@ use lib.Dec.{leb}
 use borrow.Author.Tests.{leb-true, le-leb, lt-leb}
 use Rattle.rules.proofs.Lists.{and-left, and-right}
 use Rattle.rules.specs.declared.span.Span.{Span}
+use Rattle.rules.specs.Kind
 use Rattle.rules.specs.Words.{sameBytes}
 use Rattle.rules.specs.Record.{Rec, decode, recordBytes, kindIn, isNamedIn, fitsIn, nameIn, nameOffset, nameLength}
-use Rattle.names.specs.NameTable.{column, isNamed, sameName}
+use Rattle.names.specs.NameTable.{column, isNamed, isKeyed, sameName}
 use Rattle.names.specs.Parts.{known, knownCount, recordOf}
 use Rattle.names.proofs.Known.{length-known, known-at}
 use Rattle.names.proofs.Columns.{column-at}
@@ -32,8 +33,39 @@ pub whole-known : (sheet : List ℕ) (i n : ℕ) → n ≡ knownCount sheet → 
 unfolding knownCount
 whole-known sheet i n h l = omega arith
 
--- two records with names, whose names are compared
-module _ (sheet names : List ℕ) (i j : ℕ) (first : isNamed (recordOf sheet names i) ≡ true) (second : isNamed (recordOf sheet names j) ≡ true) where
+-- a record with a name whose kind passes a test, and one that passes it with its name
+tested-named : (n t f : Bool) → ((n && t) && f) ≡ true → (n && f) ≡ true
+tested-named true true f h = h
+tested-named true false f h = absurd (true≢false (sym h))
+tested-named false t f h = h
+
+named-tested : (n t f : Bool) → (n && f) ≡ true → ((n && t) && f) ≡ t
+named-tested true true f h = h
+named-tested true false f h = refl
+named-tested false t f h = absurd (true≢false (sym h))
+
+unnamed-tested : (n t f : Bool) → (n && f) ≡ false → ((n && t) && f) ≡ false
+unnamed-tested true true f h = h
+unnamed-tested true false f h = refl
+unnamed-tested false t f h = refl
+
+pub keyed-named : (r : Rec (List ℕ) Span) → isKeyed r ≡ true → isNamed r ≡ true
+keyed-named r = tested-named (Kind.hasName (r .kind) (r .sub)) _ (r .fits)
+
+pub unnamed-keyed : (r : Rec (List ℕ) Span) → isNamed r ≡ false → isKeyed r ≡ false
+unnamed-keyed r = unnamed-tested (Kind.hasName (r .kind) (r .sub)) _ (r .fits)
+
+-- what a test says of the kind that is read
+module _ (sheet names : List ℕ) (i : ℕ) (named : isNamed (recordOf sheet names i) ≡ true) (kind : ℕ) (e : kind ≡ kindIn (recordBytes sheet i)) where
+  abbrev r : Rec (List ℕ) Span
+  r = recordOf sheet names i
+
+  pub kind-tested : (test : ℕ → Bool) (told : Bool) → told ≡ test kind → ((Kind.hasName (r .kind) (r .sub) && test (r .kind)) && r .fits) ≡ told
+  unfolding recordOf decode
+  kind-tested test told h = named-tested (Kind.hasName (r .kind) (r .sub)) (test (r .kind)) (r .fits) named ∙ sym (rw e at h)
+
+-- two records whose names are compared
+module _ (sheet names : List ℕ) (i j : ℕ) (first : isKeyed (recordOf sheet names i) ≡ true) (second : isKeyed (recordOf sheet names j) ≡ true) where
   pub names-compared :
       (r : Bool) (a b : List ℕ) → a ≡ nameIn names (recordBytes sheet j) → b ≡ nameIn names (recordBytes sheet i) → r ≡ sameBytes a b →
       r ≡ sameName (recordOf sheet names i) (recordOf sheet names j)

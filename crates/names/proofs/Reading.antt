@@ -1,23 +1,21 @@
 -- What a record adds to the table when it is read: its id, its code, and what it says of its name.
 use Prim.Native.Nat.{ℕ, _+_, _≤_, _<_}
 use native.Mathlib.Omega.{arith}
-use mathlib.Core.Path.{_≡_, refl, _∙_, sym, ap}
+use mathlib.Core.Path.{_≡_, refl, _∙_, sym, ap, ap₂}
 use mathlib.Core.Bool.{true, false}
 use mathlib.Core.List.{List}
 use lib.ListN.{length, getD, take, set, replicate, length-set, length-replicate}
-use lib.Seq.{getD-take}
 use Rattle.rules.specs.Kind
 use Rattle.rules.specs.Words.{numberIf, anyOf}
-use Rattle.rules.specs.Record.{decode, recordBytes, nameIn}
-use Rattle.names.specs.NameTable.{placeOf, isNamed, idIn, codeOf}
+use Rattle.rules.specs.Record.{decode, recordBytes, kindIn, nameIn}
+use Rattle.names.specs.NameTable.{placeOf, isNamed, isKeyed, idIn, codeOf}
 use Rattle.names.specs.Notes.{declarationNote, importNote, Part, Read}
 use Rattle.names.specs.Parts.{known, knownCount, recordOf, ids, codes}
 use Rattle.names.proofs.Columns.{zeros-at}
-use Rattle.names.proofs.Firsts.{id-unnamed, id-same-name}
+use Rattle.names.proofs.Firsts.{id-unnamed}
 use Rattle.names.proofs.Known.{known-few}
 use Rattle.names.proofs.Noting.{unnamed-silent, noted-none}
-use Rattle.names.proofs.Numbers.{part-at}
-use Rattle.names.proofs.SameIds.{same-tells}
+use Rattle.names.proofs.Numbers.{part-at, unnamed-keyed}
 use Rattle.names.proofs.Stored.{part-same, part-set, part-ahead, part-behind, taken-here, taken-next, taken-zero}
 
 -- before the first record the table has zeros
@@ -42,10 +40,10 @@ module _ (sheet names : List ℕ) (i : ℕ) (h : i < knownCount sheet) where
   unfolding ids
   id-number v e = part-at sheet names i (knownCount sheet) refl (idIn (known sheet names)) v (known-few sheet) h e
 
-  code-number : (v : ℕ) → v ≡ numberIf (isNamed (recordOf sheet names i)) (codeOf (recordOf sheet names i .name)) → v ≡ getD (codes sheet names) i 0
+  code-number : (v : ℕ) → v ≡ numberIf (isNamed (recordOf sheet names i)) (codeOf (recordOf sheet names i .kind) (recordOf sheet names i .name)) → v ≡ getD (codes sheet names) i 0
   unfolding codes
   code-number v e =
-      part-at sheet names i (knownCount sheet) refl (λ i r. numberIf (isNamed r) (codeOf (r .name))) v (known-few sheet) h e
+      part-at sheet names i (knownCount sheet) refl (λ i r. numberIf (isNamed r) (codeOf (r .kind) (r .name))) v (known-few sheet) h e
 
   module _ (t : List ℕ) (before : Read sheet names t i i) where
     small : i < 1024
@@ -60,15 +58,18 @@ module _ (sheet names : List ℕ) (i : ℕ) (h : i < knownCount sheet) where
 
     pub read-unnamed : isNamed (recordOf sheet names i) ≡ false → (v : ℕ) → v ≡ i → Read sheet names (set t (0 + i) v) (i + 1) (i + 1)
     read-unnamed f v e =
-        noted-none sheet names i h (set t (0 + i) v) (i + 1) stored (unnamed-silent sheet names i h f Kind.Declaration)
-        (unnamed-silent sheet names i h f Kind.ImportedName)
+        noted-none sheet names i h (set t (0 + i) v) (i + 1) stored (unnamed-silent sheet names i h unkeyed Kind.Declaration)
+        (unnamed-silent sheet names i h unkeyed Kind.ImportedName)
       where
+        unkeyed : isKeyed (recordOf sheet names i) ≡ false
+        unkeyed = unnamed-keyed (recordOf sheet names i) f
+
         stored : Read sheet names (set t (0 + i) v) (i + 1) i
         stored =
             let few = small in
             record {
               size = length-set t (0 + i) v ∙ before .size;
-              ids-part = id-stored v (e ∙ sym (id-unnamed sheet names i f));
+              ids-part = id-stored v (e ∙ sym (id-unnamed sheet names i unkeyed));
               declaration-notes = part-ahead (before .declaration-notes) (0 + i) v (omega arith);
               import-notes = part-ahead (before .import-notes) (0 + i) v (omega arith);
               targets-part = part-ahead (before .targets-part) (0 + i) v (omega arith);
@@ -76,26 +77,15 @@ module _ (sheet names : List ℕ) (i : ℕ) (h : i < knownCount sheet) where
                   (λ k l. taken-zero (codes sheet names) i k (sym (code-number 0 (rw f))));
             }
 
-    -- a name that is met again has the code of its first record
-    pub copied-code :
-        isNamed (recordOf sheet names i) ≡ true → (id : ℕ) → id ≡ idIn (known sheet names) i (recordOf sheet names i) →
-        (name : List ℕ) → name ≡ nameIn names (recordBytes sheet i) → id < i → getD t (4096 + id) 0 ≡ codeOf name
-    unfolding recordOf decode codes
-    copied-code named id f name en l =
-        let few = small in
-        let low : id < knownCount sheet = omega arith in
-        let tells = same-tells (recordOf sheet names i) (recordOf sheet names id) (rw (← f) at (id-same-name sheet names i h named)) in
-        before .codes-part .at id (omega arith) ∙ getD-take i (codes sheet names) id 0 l ∙ sym (part-at sheet names id (knownCount sheet) refl (λ k r. numberIf (isNamed r) (codeOf (r .name))) _ (known-few sheet) low refl)
-        ∙ rw (tells .1) (ap codeOf (tells .2 ∙ sym en))
-
     pub read-named :
         isNamed (recordOf sheet names i) ≡ true → (v id c : ℕ) → v ≡ id → id ≡ idIn (known sheet names) i (recordOf sheet names i) →
-        (name : List ℕ) → name ≡ nameIn names (recordBytes sheet i) → c ≡ codeOf name →
+        (kind : ℕ) → kind ≡ kindIn (recordBytes sheet i) → (name : List ℕ) → name ≡ nameIn names (recordBytes sheet i) → c ≡ codeOf kind name →
         Read sheet names (set (set t (0 + i) v) (4096 + i) c) (i + 1) i
     unfolding recordOf decode
-    read-named named v id c e f name en ec =
+    read-named named v id c e f kind ek name en ec =
         let few = small in
-        let coded : c ≡ numberIf (isNamed (recordOf sheet names i)) (codeOf (recordOf sheet names i .name)) = rw named (ec ∙ ap codeOf en) in
+        let coded : c ≡ numberIf (isNamed (recordOf sheet names i)) (codeOf (recordOf sheet names i .kind) (recordOf sheet names i .name)) =
+        rw named (ec ∙ ap₂ codeOf ek en) in
         let t′ : List ℕ = set t (0 + i) v in
         let size′ : length t′ ≡ 5122 = length-set t (0 + i) v ∙ before .size in
         record {

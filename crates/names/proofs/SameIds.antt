@@ -12,25 +12,25 @@ use Rattle.rules.specs.Words.{sameBytes}
 use Rattle.rules.specs.Record.{Rec, is}
 use Rattle.rules.proofs.Lists.{and-left, and-right}
 use Rattle.rules.proofs.Moved.{sameBytes-tells}
-use Rattle.names.specs.NameTable.{placeOf, isNamed, sameName, idIn}
+use Rattle.names.specs.NameTable.{placeOf, isKeyed, sameName, idIn}
 use Rattle.names.specs.Notes.{hasId}
 use Rattle.names.proofs.FirstPlaces.{place-passes, place-never}
 use Rattle.names.proofs.Lookups.{same-itself, id-place}
 
 module _ {P : Type 0} where
-  pub same-tells : (r q : Rec (List ℕ) P) → sameName r q ≡ true → (isNamed r ≡ true) × (isNamed q ≡ true) × (q .name ≡ r .name)
+  pub same-tells : (r q : Rec (List ℕ) P) → sameName r q ≡ true → (isKeyed r ≡ true) × (isKeyed q ≡ true) × (q .name ≡ r .name)
   unfolding sameName
   same-tells r q h =
-      let both = and-left (isNamed r && isNamed q) (sameBytes (q .name) (r .name)) h in
-      let bytes = and-right (isNamed r && isNamed q) (sameBytes (q .name) (r .name)) h in
-      (and-left (isNamed r) (isNamed q) both, and-right (isNamed r) (isNamed q) both, sameBytes-tells (q .name) (r .name) bytes)
+      let both = and-left (isKeyed r && isKeyed q) (sameBytes (q .name) (r .name)) h in
+      let bytes = and-right (isKeyed r && isKeyed q) (sameBytes (q .name) (r .name)) h in
+      (and-left (isKeyed r) (isKeyed q) both, and-right (isKeyed r) (isKeyed q) both, sameBytes-tells (q .name) (r .name) bytes)
 
-  same-of : (r q : Rec (List ℕ) P) → isNamed r ≡ true → isNamed q ≡ true → q .name ≡ r .name → sameName r q ≡ true
+  same-of : (r q : Rec (List ℕ) P) → isKeyed r ≡ true → isKeyed q ≡ true → q .name ≡ r .name → sameName r q ≡ true
   unfolding sameName
   same-of r q hr hq e = rw (hr, hq, e, same-itself (r .name))
 
   -- no record has the name of one without
-  pub unnamed-place : (r : Rec (List ℕ) P) → isNamed r ≡ false → (rs : List (Rec (List ℕ) P)) → placeOf (sameName r) rs ≡ 0
+  pub unnamed-place : (r : Rec (List ℕ) P) → isKeyed r ≡ false → (rs : List (Rec (List ℕ) P)) → placeOf (sameName r) rs ≡ 0
   unfolding sameName
   unnamed-place r h rs = place-never (sameName r) (λ q. rw h) rs
 
@@ -41,15 +41,15 @@ module _ {P : Type 0} where
     abbrev id : ℕ
     id = idIn rs i r
 
-    unnamed-id : isNamed r ≡ false → id ≡ i
+    unnamed-id : isKeyed r ≡ false → id ≡ i
     unfolding idIn
     unnamed-id h = rw (unnamed-place r h rs, idIn)
 
-    pub has-id : (kind k : ℕ) → hasId kind rs k r ≡ ((is kind r && isNamed r) && eqb id k)
+    pub has-id : (kind k : ℕ) → hasId kind rs k r ≡ ((is kind r && isKeyed r) && eqb id k)
     unfolding hasId
-    has-id kind k = go (isNamed r) refl
+    has-id kind k = go (isKeyed r) refl
       where
-        go : (b : Bool) → isNamed r ≡ b → (is kind r && eqb (placeOf (sameName r) rs) (suc k)) ≡ ((is kind r && isNamed r) && eqb id k)
+        go : (b : Bool) → isKeyed r ≡ b → (is kind r && eqb (placeOf (sameName r) rs) (suc k)) ≡ ((is kind r && isKeyed r) && eqb id k)
         go true h = rw (h, id-place rs d i l h, and-true, compare·suc-suc)
         go false h = rw (h, unnamed-place r h rs, ne-eqb 0 (suc k) (λ e. omega arith), and-false)
 
@@ -58,10 +58,10 @@ module _ {P : Type 0} where
       unfolding sameName
       alike e =
           let tells = same-tells r q e in
-          λ t. placeOf (λ x. (tells .1 ∙ sym (tells .0)) t && isNamed x && sameBytes (x .name) (tells .2 t)) rs
+          λ t. placeOf (λ x. (tells .1 ∙ sym (tells .0)) t && isKeyed x && sameBytes (x .name) (tells .2 t)) rs
 
       -- the record at the id has the name of q, and is or has the name of record i
-      met : (b : Bool) → isNamed r ≡ b → placeOf (sameName q) rs ≡ suc id → sameName r q ≡ true
+      met : (b : Bool) → isKeyed r ≡ b → placeOf (sameName q) rs ≡ suc id → sameName r q ≡ true
       met true h e =
           let mine = same-tells r (getD rs id d) (place-passes (sameName r) d rs id (id-place rs d i l h) .1) in
           let its = same-tells q (getD rs id d) (place-passes (sameName q) d rs id e .1) in
@@ -76,4 +76,4 @@ module _ {P : Type 0} where
           go : (b : Bool) → sameName r q ≡ b → eqb (placeOf (sameName q) rs) (suc id) ≡ sameName r q
           go true e = eq-eqb (placeOf (sameName q) rs) (suc id) (alike e ∙ id-place rs d i l (same-tells r q e .0)) ∙ sym e
           go false e =
-              ne-eqb (placeOf (sameName q) rs) (suc id) (λ p. true≢false (sym (met (isNamed r) refl p) ∙ e)) ∙ sym e
+              ne-eqb (placeOf (sameName q) rs) (suc id) (λ p. true≢false (sym (met (isKeyed r) refl p) ∙ e)) ∙ sym e

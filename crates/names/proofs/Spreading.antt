@@ -15,7 +15,7 @@ use Rattle.rules.specs.declared.span.Span.{Span}
 use Rattle.rules.specs.Kind
 use Rattle.rules.specs.Words.{numberIf, anyOf}
 use Rattle.rules.specs.Record.{Rec, is}
-use Rattle.names.specs.NameTable.{placeOf, isNamed, sameName, idIn, declarationIn, importIn, targetIn, codeOf}
+use Rattle.names.specs.NameTable.{placeOf, isKeyed, isNamed, sameName, idIn, declarationIn, importIn, targetIn, codeOf}
 use Rattle.names.specs.Notes.{hasId, declarationNote, importNote, idNoted, Part, Silent, Read, Spread}
 use Rattle.names.specs.Parts.{known, knownCount, recordOf, targetOf, ids, declarations, imported, targets, codes}
 use Rattle.names.proofs.Columns.{column-past, length-ids, length-declarations, length-imported, length-targets, length-codes}
@@ -42,17 +42,17 @@ module _ (sheet names : List ℕ) where
 
   -- an id is its own id, and not past the record
   id-twice : (i : ℕ) → i < count → id (id i) ≡ id i
-  id-twice i h = go (isNamed (at i)) refl
+  id-twice i h = go (isKeyed (at i)) refl
     where
-      go : (b : Bool) → isNamed (at i) ≡ b → id (id i) ≡ id i
+      go : (b : Bool) → isKeyed (at i) ≡ b → id (id i) ≡ id i
       go true named =
           sym (id-shared sheet names i (id i) h (id-known sheet names i h named) named (id-same-name sheet names i h named))
       go false f = ap id (id-unnamed sheet names i f)
 
   id-before : (i : ℕ) → i < count → id i ≤ i
-  id-before i h = go (isNamed (at i)) refl
+  id-before i h = go (isKeyed (at i)) refl
     where
-      go : (b : Bool) → isNamed (at i) ≡ b → id i ≤ i
+      go : (b : Bool) → isKeyed (at i) ≡ b → id i ≤ i
       go true named = id-within sheet names i h named
       go false f = let own = id-unnamed sheet names i f in omega arith
 
@@ -136,7 +136,7 @@ module _ (sheet names : List ℕ) where
 
     codes-past : getD (codes sheet names) k 0 ≡ 0
     unfolding codes
-    codes-past = column-past (λ i r. numberIf (isNamed r) (codeOf (r .name))) rs k (rw length-known h)
+    codes-past = column-past (λ i r. numberIf (isNamed r) (codeOf (r .kind) (r .name))) rs k (rw length-known h)
 
   -- before the first record nothing is spread
   pub spread-none : (t : List ℕ) → Read sheet names t count count → Spread sheet names t 0

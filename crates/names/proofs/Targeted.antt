@@ -4,7 +4,7 @@ use Prim.Native.Nat.{ℕ, zero, suc, _+_, _*_, _<_, _≤_}
 use native.Mathlib.Decide.{ℕ-discrete, decLt}
 use native.Mathlib.Omega.{arith}
 use mathlib.Core.Path.{_≡_, refl, sym, ap, ap₂, _∙_}
-use mathlib.Core.Bool.{Bool, true, false, not, _||_, true≢false}
+use mathlib.Core.Bool.{Bool, true, false, not, true≢false}
 use mathlib.Core.List.{List}
 use mathlib.Core.Option.{Option, some, none}
 use lib.ListN.{length, getD, set}
@@ -204,7 +204,7 @@ module _ (table sheet : List ℕ) (i e : ℕ) where
             same = λ t j k. eqb (sym (kept-entry idPart j (λ h. omega arith)) t) (sym (kept-entry idPart k (λ h. omega arith)) t);
             word = λ t j. numberIf (within 1 7 (code j t)) (code j t);
             blank = λ t j. eqb (code j t) 8;
-            isValidFieldName = λ t j. within 1 7 (code j t) || eqb (code j t) 9;
+            isValidFieldName = λ t j. eqb (code j t) 9;
           }
         where
           code : (j : ℕ) → entryOf codePart table j ≡ entryOf codePart short j

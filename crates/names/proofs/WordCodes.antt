@@ -1,91 +1,97 @@
--- The code of a name, from the tests that code makes: word by word, then on the length and on the bytes.
-use Prim.Native.Nat.{ℕ, zero, suc, _+_, _<_}
-use mathlib.Core.Path.{_≡_, refl, _∙_, sym, ap}
-use mathlib.Core.Bool.{Bool, true, false, _||_}
+-- The code of a name that may be a word, from the tests that code makes: on the length, then word by word.
+use Prim.Native.Nat.{ℕ, suc, _<_}
+use mathlib.Core.Path.{_≡_, refl, _∙_, sym}
+use mathlib.Core.Bool.{Bool, true, false, _&&_, and-false}
 use mathlib.Core.List.{List, [], _∷_}
 use native.Mathlib.Omega.{arith}
 use lib.Dec.{eqb}
 use lib.ListN.{length, getD}
-use borrow.Author.Tests.{eqb-false, ne-eqb}
+use borrow.Author.Tests.{eq-eqb, ne-eqb}
+use Rattle.rules.specs.Kind
 use Rattle.rules.specs.Words.{numberIf, sameBytes}
-use Rattle.rules.specs.Context.{words, wordFrom, validFieldName, isBlank}
-use Rattle.sheet.proofs.Windows.{neither}
-use Rattle.names.specs.NameTable.{codeOf}
-use Rattle.names.specs.Code.{startsWord}
+use Rattle.rules.specs.Context.{words, wordFrom, validFieldName}
+use Rattle.rules.proofs.Every.{Every, every-nil, every-cons}
+use Rattle.rules.specs.Asked.{isWorded}
+use Rattle.names.specs.NameTable.{wordCode, codeOf}
+use Rattle.names.specs.Code.{startedFrom}
 
-module _ (n : ℕ) (w : List ℕ) (ws : List (List ℕ)) (name : List ℕ) (same : Bool) (h : same ≡ sameBytes w name) where
-  pub word-here : same ≡ true → n ≡ wordFrom n (w ∷ ws) name
-  unfolding wordFrom
-  word-here t = rw (sym h ∙ t, wordFrom)
+-- a name is none of the words that start with another byte
+started : (b n : ℕ) (ws : List (List ℕ)) (name : List ℕ) → startedFrom b n ws (b ∷ name) ≡ wordFrom n ws (b ∷ name)
+unfolding startedFrom wordFrom sameBytes
+started b n [] name = refl
+started b n (w ∷ ws) name = λ i. elim (tested w i) as (λ x. ℕ) [ true ↦ n | false ↦ started b (suc n) ws name i ]
+  where
+    twice : (s t : Bool) → (s && (s && t)) ≡ (s && t)
+    twice true t = refl
+    twice false t = refl
 
-  pub word-later : (r : ℕ) → same ≡ false → r ≡ wordFrom (suc n) ws name → r ≡ wordFrom n (w ∷ ws) name
-  unfolding wordFrom
-  word-later r f e = rw (sym h ∙ f, wordFrom) e
+    tested : (v : List ℕ) → (eqb (getD v 0 0) b && sameBytes v (b ∷ name)) ≡ sameBytes v (b ∷ name)
+    tested [] = and-false (eqb 0 b)
+    tested (c ∷ v) = twice (eqb c b) (sameBytes v name)
 
-pub word-none : (n : ℕ) (name : List ℕ) → 0 ≡ wordFrom n [] name
-unfolding wordFrom
-word-none n name = refl
+none-started : (b n : ℕ) (name : List ℕ) {ws : List (List ℕ)} → Every (λ w. eqb (getD w 0 0) b ≡ false) ws → startedFrom b n ws name ≡ 0
+unfolding startedFrom
+none-started b n name every-nil = refl
+none-started b n name (every-cons h hs) = rw (h, startedFrom) (none-started b (suc n) name hs)
 
--- a name that starts as no word does is none
-other-start : (k b : ℕ) (w name : List ℕ) → eqb b k ≡ false → false ≡ sameBytes (k ∷ w) (b ∷ name)
-unfolding sameBytes
-other-start k b w name h = rw (ne-eqb k b (λ e. eqb-false b k h (sym e)))
+-- the word that a name is, by its first byte
+pub started-word :
+    (k : ℕ) (name : List ℕ) (first v : ℕ) → 0 < length name → first ≡ getD name 0 0 → first ≡ k → v ≡ startedFrom k 1 words name →
+    v ≡ wordFrom 1 words name
+started-word k [] first v l h e ev = absurd (omega arith)
+started-word k (b ∷ name) first v l h e ev = rw (← e, h) at ev ∙ started b 1 words name
 
-other-word : (b : ℕ) (name : List ℕ) → startsWord b ≡ false → 0 ≡ wordFrom 1 words (b ∷ name)
-other-word b name h =
-    let z = neither (eqb b 100 || eqb b 108 || eqb b 114 || eqb b 118) (eqb b 122) h in
-    let v = neither (eqb b 100 || eqb b 108 || eqb b 114) (eqb b 118) (z .0) in
-    let r = neither (eqb b 100 || eqb b 108) (eqb b 114) (v .0) in
-    let dl = neither (eqb b 100) (eqb b 108) (r .0) in
-    word-later 1 _ _ _ false (other-start 118 b _ name (v .1)) 0 refl
-    (word-later 2 _ _ _ false (other-start 122 b _ name (z .1)) 0 refl
-    (word-later 3 _ _ _ false (other-start 100 b _ name (dl .0)) 0 refl
-    (word-later 4 _ _ _ false (other-start 108 b _ name (dl .1)) 0 refl
-    (word-later 5 _ _ _ false (other-start 100 b _ name (dl .0)) 0 refl
-    (word-later 6 _ _ _ false (other-start 100 b _ name (dl .0)) 0 refl
-    (word-later 7 _ _ _ false (other-start 114 b _ name (r .1)) 0 refl
-    (word-none 8 (b ∷ name))))))))
+-- the same, where one word starts with the byte
+pub started-place :
+    (k : ℕ) (name : List ℕ) (first v place : ℕ) (same : Bool) → 0 < length name → first ≡ getD name 0 0 → first ≡ k → v ≡ numberIf same place →
+    startedFrom k 1 words name ≡ elim same as (λ x. ℕ) [ true ↦ place | false ↦ 0 ] → v ≡ wordFrom 1 words name
+started-place k name first v place same l h e ev one = started-word k name first v l h e (ev ∙ told same ∙ sym one)
+  where
+    told : (b : Bool) → numberIf b place ≡ elim b as (λ x. ℕ) [ true ↦ place | false ↦ 0 ]
+    told true = refl
+    told false = refl
 
-pub no-word : (name : List ℕ) (first : Bool) → 0 < length name → first ≡ startsWord (getD name 0 0) → first ≡ false → 0 ≡ wordFrom 1 words name
-no-word [] first l h f = absurd (omega arith)
-no-word (b ∷ name) first l h f = other-word b name (sym h ∙ f)
+-- a name that starts as no word does
+pub other-word :
+    (name : List ℕ) → 0 < length name → (getD name 0 0 ≡ 100 → ⊥) → (getD name 0 0 ≡ 108 → ⊥) → (getD name 0 0 ≡ 114 → ⊥) →
+    (getD name 0 0 ≡ 118 → ⊥) → (getD name 0 0 ≡ 122 → ⊥) → 0 ≡ wordFrom 1 words name
+other-word [] len d l r v z = absurd (omega arith)
+other-word (b ∷ name) len d l r v z =
+    sym (none-started b 1 (b ∷ name) (every-cons (other 118 v) (every-cons (other 122 z) (every-cons (other 100 d) (every-cons (other 108 l)
+    (every-cons (other 100 d) (every-cons (other 100 d) (every-cons (other 114 r) every-nil))))))))
+    ∙ started b 1 words name
+  where
+    other : (k : ℕ) → (b ≡ k → ⊥) → eqb k b ≡ false
+    other k f = ne-eqb k b (λ e. f (sym e))
 
--- the code of a name at that place among the words
-coded : ℕ → List ℕ → ℕ
-coded place name =
-    elim place [
-      | zero ↦ numberIf (isBlank name) 8 + numberIf (validFieldName name) 9
-      | suc w ↦ suc w
-    ]
+module _ (w name : List ℕ) (place : ℕ) (same : Bool) (h : same ≡ sameBytes w name) where
+  pub place-here : same ≡ true → place ≡ numberIf (sameBytes w name) place
+  place-here t = rw (sym h ∙ t)
 
-coded-word : (place : ℕ) (name : List ℕ) → (place ≡ 0 → ⊥) → place ≡ coded place name
-unfolding coded
-coded-word zero name h = absurd (h refl)
-coded-word (suc w) name h = refl
+  pub place-none : same ≡ false → 0 ≡ numberIf (sameBytes w name) place
+  place-none f = rw (sym h ∙ f)
 
-coded-other : (name : List ℕ) → (length name ≡ 0 → ⊥) → numberIf (validFieldName name) 9 ≡ coded 0 name
-unfolding coded
-coded-other [] h = absurd (h refl)
-coded-other (b ∷ name) h = omega arith
-
-pub code-blank : (name : List ℕ) → length name ≡ 0 → 8 ≡ codeOf name
-unfolding codeOf wordFrom sameBytes validFieldName
+pub code-blank : (name : List ℕ) → length name ≡ 0 → 8 ≡ wordCode name
+unfolding wordCode wordFrom sameBytes
 code-blank [] l = refl
 code-blank (b ∷ name) l = absurd (omega arith)
 
-module _ (name : List ℕ) (place : ℕ) (h : place ≡ wordFrom 1 words name) where
-  pub code-word : (place ≡ 0 → ⊥) → place ≡ codeOf name
-  unfolding codeOf coded
-  code-word n = coded-word place name n ∙ ap (λ (p : ℕ). coded p name) h
+pub code-word : (name : List ℕ) (place : ℕ) → (length name ≡ 0 → ⊥) → place ≡ wordFrom 1 words name → place ≡ wordCode name
+unfolding wordCode
+code-word [] place l h = absurd (l refl)
+code-word (b ∷ name) place l h = omega arith
 
-  module _ (z : place ≡ 0) where
-    code-rest : coded 0 name ≡ codeOf name
-    unfolding codeOf coded
-    code-rest = ap (λ (p : ℕ). coded p name) (sym z ∙ h)
+-- the code by the kind, which was asked first whether the name may be a word
+module _ (kind : ℕ) (name : List ℕ) (worded : Bool) (h : worded ≡ isWorded kind) where
+  pub worded-code : (v : ℕ) → worded ≡ true → v ≡ wordCode name → v ≡ codeOf kind name
+  unfolding codeOf
+  worded-code v t e = rw (sym h ∙ t, codeOf) e
 
-    module _ (l : length name ≡ 0 → ⊥) (valid : Bool) (hv : valid ≡ validFieldName name) where
-      pub code-valid : valid ≡ true → 9 ≡ codeOf name
-      code-valid t = rw (sym hv ∙ t) at (coded-other name l ∙ code-rest)
+  module _ (f : worded ≡ false) where
+    pub unasked-code : (kind ≡ Kind.BitName → ⊥) → 0 ≡ codeOf kind name
+    unfolding codeOf
+    unasked-code other = rw (sym h ∙ f, codeOf, ne-eqb kind Kind.BitName other)
 
-      pub code-invalid : valid ≡ false → 0 ≡ codeOf name
-      code-invalid f = rw (sym hv ∙ f) at (coded-other name l ∙ code-rest)
+    pub judged-code : (v : ℕ) (valid : Bool) → kind ≡ Kind.BitName → valid ≡ validFieldName name → v ≡ numberIf valid 9 → v ≡ codeOf kind name
+    unfolding codeOf
+    judged-code v valid e hv ev = rw (sym h ∙ f, codeOf, eq-eqb kind Kind.BitName e, ← hv) ev

@@ -6,7 +6,7 @@ use mathlib.Core.Bool.{true, false}
 use mathlib.Core.List.{List}
 use lib.ListN.{length, getD}
 use lib.Dec.{ltb}
-use Rattle.names.specs.NameTable.{isNamed, idIn}
+use Rattle.names.specs.NameTable.{isKeyed, idIn}
 use Rattle.names.specs.Parts.{known, knownCount, recordOf}
 
 -- the number in four bytes of a name
@@ -51,7 +51,7 @@ module _ (sheet names : List ℕ) where
   -- record j is the first with its name, which is of bucket b
   pub record Lead (b j : ℕ) : Type 0 where
     pub known-record : j < knownCount sheet
-    pub named : isNamed (recordOf sheet names j) ≡ true
+    pub named : isKeyed (recordOf sheet names j) ≡ true
     pub bucket : bucketOf (recordOf sheet names j .name) ≡ b
     pub first : idIn (known sheet names) j (recordOf sheet names j) ≡ j
 

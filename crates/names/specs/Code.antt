@@ -1,15 +1,17 @@
 -- What a look at a name's first byte, or at a block of the names text, says of a name's code.
-use Prim.Native.Nat.{ℕ, _*_}
+use Prim.Native.Nat.{ℕ, suc, _*_}
 use mathlib.Core.Path.{_≡_}
-use mathlib.Core.Bool.{Bool, true, _||_}
-use mathlib.Core.List.{List}
+use mathlib.Core.Bool.{true, false, _&&_}
+use mathlib.Core.List.{List, [], _∷_}
 use lib.Dec.{eqb}
 use lib.ListN.{getD, take, drop}
+use Rattle.rules.specs.Words.{sameBytes}
 use Rattle.sheet.specs.Mark.{continueBy}
 
--- a word starts with the byte: with d, l, r, v or z
-abbrev pub startsWord : ℕ → Bool
-startsWord b = eqb b 100 || eqb b 108 || eqb b 114 || eqb b 118 || eqb b 122
+-- the place of a name in a list of words, counted from n, as far as they start with the byte; 0 where it does not stand there
+unfoldable pub startedFrom : ℕ → ℕ → List (List ℕ) → List ℕ → ℕ
+startedFrom b n [] name = 0
+startedFrom b n (w ∷ ws) name = elim (eqb (getD w 0 0) b && sameBytes w name) [ true ↦ n | false ↦ startedFrom b (suc n) ws name ]
 
 -- the blocks of 64 bytes of a text that are known as good have only bytes that may go on in a name, by a table of marks
 unfoldable pub Judged : List ℕ → List ℕ → List ℕ → Type 0

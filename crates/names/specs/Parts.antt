@@ -39,7 +39,7 @@ unfoldable pub targets : List ℕ → List ℕ → List ℕ
 targets sheet names = column (λ i r. targetIn (known sheet names) r) (known sheet names)
 
 unfoldable pub codes : List ℕ → List ℕ → List ℕ
-codes sheet names = column (λ i r. numberIf (isNamed r) (codeOf (r .name))) (known sheet names)
+codes sheet names = column (λ i r. numberIf (isNamed r) (codeOf (r .kind) (r .name))) (known sheet names)
 
 -- the two numbers behind them
 unfoldable pub totals : List ℕ → List ℕ → List ℕ

@@ -1,7 +1,7 @@
 -- How the rules read a sheet through the table of names: a record's name is its index, and what is asked of a name is looked up in the
 -- table at that index. It holds for every content of the table.
 use Prim.Native.Nat.{ℕ, zero, suc, _+_, _-_, _*_}
-use mathlib.Core.Bool.{true, not, _||_}
+use mathlib.Core.Bool.{true, not}
 use mathlib.Core.List.{List, [], _∷_}
 use mathlib.Core.Option.{Option, some, none}
 use lib.ListN.{getD}
@@ -85,5 +85,5 @@ contextBy table sheet =
       same = λ i j. eqb (entryOf idPart table i) (entryOf idPart table j);
       word = λ i. numberIf (within 1 7 (entryOf codePart table i)) (entryOf codePart table i);
       blank = λ i. eqb (entryOf codePart table i) 8;
-      isValidFieldName = λ i. within 1 7 (entryOf codePart table i) || eqb (entryOf codePart table i) 9;
+      isValidFieldName = λ i. eqb (entryOf codePart table i) 9;
     }

@@ -1,4 +1,5 @@
 // The table of names: what the rules ask of the name of each record, worked out once.
+mod asked;
 mod clear;
 mod codes;
 mod compare;
@@ -26,4 +27,3 @@ pub use lookup::is_imported;
 pub use lookup::target;
 pub use shorten::set_target;
 pub use whole::fill;
-pub use words::name_code;

@@ -2,7 +2,8 @@
 ghost use mathlib.Core.Path.{_≡_};
 ghost use mathlib.Core.Bool.{true};
 ghost use Prim.Native.Nat.{_+_, _/_, _<_};
-ghost use lib.ListN.{length, getD};
+ghost use lib.ListN.{length};
+ghost use Rattle.rules.specs.Words.{numberIf};
 ghost use Rattle.rules.specs.Record.{recordBytes, nameIn};
 ghost use Rattle.sheet.specs.Mark.{HasMarks};
 ghost use Rattle.names.specs.NameTable.{isNamed, codeOf};
@@ -10,6 +11,7 @@ ghost use Rattle.names.specs.Buckets.{Chained};
 ghost use Rattle.names.specs.Code.{Judged};
 ghost use Rattle.names.specs.Notes.{Read};
 ghost use Rattle.names.specs.Parts.{knownCount, recordOf};
+use crate::asked::is_worded;
 use crate::codes::BLOCKS;
 use crate::codes::is_valid;
 use crate::count::short;
@@ -18,28 +20,40 @@ use crate::layout;
 use crate::notes::note;
 use crate::own::first_name;
 use crate::own::is_first_named;
-use crate::words::code_of;
+use crate::words::word_code;
 use rules::Sheet;
+use sheet::kinds;
 
-// The code of the name of record `i`, which has that id. Where the record is not the first with the name, the code is known.
+// The code of a name that a bit may have.
+const BIT: u16 = 9;
+
+// The code of a name that is judged.
+fn bit_code(valid: bool) -> u16
+    ensures { λ r. ⌜ r ≡ numberIf valid 9 ⌝ }
+{
+    if valid { BIT } else { 0 }
+}
+
+// The code of the name of the first record, which is of that kind.
 fn next_code(
     own: &[u8],
     names: &[u8],
     marks: &[u8; 256],
     blocks: &mut [u8; BLOCKS],
-    table: &[u16],
+    kind: u8,
     name: &[u8],
-    i: usize,
-    id: usize,
 ) -> u16
-    requires { ⌜ (isNamed (recordOf (now own) (now names) 0) ≡ true) × (now name ≡ nameIn (now names) (recordBytes (now own) 0)) × HasMarks (now marks) × Judged (now marks) (now names) (now blocks) × (length (now table) ≡ 5122) × (i < 1024) × (id < i → getD (now table) (4096 + id) 0 ≡ codeOf (now name)) ⌝ }
-    ensures { λ r. ⌜ (r ≡ codeOf (now (name .entry))) × Judged (now (marks .entry)) (now (names .entry)) (now (blocks .exit)) ⌝ }
+    requires { ⌜ (isNamed (recordOf (now own) (now names) 0) ≡ true) × (now name ≡ nameIn (now names) (recordBytes (now own) 0)) × HasMarks (now marks) × Judged (now marks) (now names) (now blocks) ⌝ }
+    ensures { λ r. ⌜ (r ≡ codeOf kind (now (name .entry))) × Judged (now (marks .entry)) (now (names .entry)) (now (blocks .exit)) ⌝ }
 {
-    if id < i {
-        return table[layout::CODES + id];
+    if is_worded(kind) {
+        return word_code(name);
+    }
+    if kind != kinds::BIT_NAME {
+        return 0;
     }
     let valid = is_valid(own, names, marks, blocks, name);
-    code_of(name, valid)
+    bit_code(valid)
 }
 
 // Stores the id and the code of record `i`, and notes what it says of its name. A record without a fitting name is its own, and has code 0.
@@ -65,9 +79,10 @@ pub fn read(
         return;
     }
     let name = first_name(own, names);
-    let id = next_id(sheet, names, heads, links, i, name);
-    let code = next_code(own, names, marks, blocks, table, name, i, id);
+    let kind = sheet::kind(own, 0);
+    let id = next_id(sheet, names, heads, links, i, kind, name);
+    let code = next_code(own, names, marks, blocks, kind, name);
     table[layout::IDS + i] = short(id);
     table[layout::CODES + i] = code;
-    note(sheet, names, table, sheet::kind(own, 0), i, id);
+    note(sheet, names, table, kind, i, id);
 }

@@ -17,7 +17,7 @@ use Rattle.rules.specs.Grammar as Grammar
 use Rattle.rules.specs.Refusals.{Fault, ownFault, recordStep, firstFault}
 use Rattle.rules.proofs.Lists.{or-left, or-right, anyOf-append}
 use Rattle.rules.proofs.AcceptedSheet.{own-fits, step-fits}
-use Rattle.names.specs.NameTable.{placeOf, isNamed, sameName, declarationIn}
+use Rattle.names.specs.NameTable.{placeOf, isKeyed, sameName, declarationIn}
 use Rattle.names.proofs.FirstPlaces.{oneOn}
 use Rattle.names.proofs.Lookups.{same-itself}
 use Rattle.refusals.specs.Pass.{orSecond, recordStepBy, firstFaultBy}
@@ -87,18 +87,18 @@ module _ {P : Type 0} where
   abbrev Fitting : List (Rec (List ℕ) P) → Type 0
   Fitting pre = anyOf (λ x. declares x && not (x .fits)) pre ≡ false
 
-  declares-named : (r : Rec (List ℕ) P) → declares r ≡ true → r .fits ≡ true → isNamed r ≡ true
+  declares-named : (r : Rec (List ℕ) P) → declares r ≡ true → r .fits ≡ true → isKeyed r ≡ true
   unfolding anyOf
   declares-named r d f = rw (eqb-true (r .kind) 1 d, f)
 
-  same-named : (r x : Rec (List ℕ) P) → isNamed r ≡ true → isNamed x ≡ true → sameName r x ≡ sameBytes (r .name) (x .name)
+  same-named : (r x : Rec (List ℕ) P) → isKeyed r ≡ true → isKeyed x ≡ true → sameName r x ≡ sameBytes (r .name) (x .name)
   unfolding sameName
   same-named r x n m =
-      ap (λ (b : Bool). b && isNamed x && sameBytes (x .name) (r .name)) n ∙ ap (λ (b : Bool). true && b && sameBytes (x .name) (r .name)) m
+      ap (λ (b : Bool). b && isKeyed x && sameBytes (x .name) (r .name)) n ∙ ap (λ (b : Bool). true && b && sameBytes (x .name) (r .name)) m
       ∙ same-sym (x .name) (r .name)
 
   -- among fitting declarations the names decide
-  among : (r : Rec (List ℕ) P) → isNamed r ≡ true → (pre : List (Rec (List ℕ) P)) → Fitting pre
+  among : (r : Rec (List ℕ) P) → isKeyed r ≡ true → (pre : List (Rec (List ℕ) P)) → Fitting pre
       → anyOf (λ q. declares q && sameName r q) pre ≡ anyOf (λ q. declares q && sameBytes (r .name) (q .name)) pre
   unfolding anyOf
   among r n [] f = refl

@@ -71,16 +71,22 @@ pub record EveryOf {A : Type 0} (Q : A → Type 0) (it : Item A) : Type 0 where
   pub head : Q (it .head)
   pub rest : Every Q (it .rest)
 
+module _ {A : Type 0} {Q : A → Type 0} {R : Item A → Type 0} where
+  -- every head passes the test
+  pub every-items-as :
+      (p : A → Bool) → ((it : Item A) → p (it .head) ≡ true → EveryOf Q it → R it) → {xs : List A} → Every Q xs → Every R (items p xs)
+  unfolding items
+  every-items-as p g every-nil = every-nil
+  every-items-as p g (every-cons {x} {xs} q h) = go (p x) refl (every-items-as p g h)
+    where
+      go : (b : Bool) → p x ≡ b → Every R (items p xs)
+          → Every R (elim b [ true ↦ record { head = x; rest = front (λ y. not (p y)) xs } ∷ items p xs | false ↦ items p xs ])
+      go true e k = every-cons (g _ e (record { head = q; rest = every-front (λ y. not (p y)) h })) k
+      go false e k = k
+
 module _ {A : Type 0} {Q : A → Type 0} where
   pub every-items : (p : A → Bool) {xs : List A} → Every Q xs → Every (EveryOf Q) (items p xs)
-  unfolding items
-  every-items p every-nil = every-nil
-  every-items p (every-cons {x} {xs} q h) = go (p x) (every-items p h)
-    where
-      go : (b : Bool) → Every (EveryOf Q) (items p xs)
-          → Every (EveryOf Q) (elim b [ true ↦ record { head = x; rest = front (λ y. not (p y)) xs } ∷ items p xs | false ↦ items p xs ])
-      go true g = every-cons (record { head = q; rest = every-front (λ y. not (p y)) h }) g
-      go false g = g
+  every-items p = every-items-as p (λ it e h. h)
 
 module _ {A : Type 0} {Q R : A → Type 0} where
   pub every-as : ((x : A) → Q x → R x) → {xs : List A} → Every Q xs → Every R xs

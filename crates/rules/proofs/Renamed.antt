@@ -11,6 +11,7 @@ use Rattle.rules.specs.Words.{anyOf, member}
 use Rattle.rules.specs.Kind
 use Rattle.rules.specs.Sub
 use Rattle.rules.specs.Record.{Rec, is, isOf}
+use Rattle.rules.specs.Asked.{isCompared, isWorded, isSpelled}
 use Rattle.rules.specs.Context.{ValidationContext, Declared, declaredAs, behind, chainEnd, neverEnds}
 use Rattle.rules.specs.Refusals.{Fault, leadsNowhere, endlessChain}
 use Rattle.rules.proofs.Chains.{isSome, goesOn}
@@ -46,72 +47,74 @@ module _ {A : Type 0} where
 abbrev pub renamedDeclared : {M N P : Type 0} → (M → N) → Declared M P → Declared N P
 renamedDeclared g d = record { sub = d .sub; inner = mapOption (renamed g) (d .inner) }
 
--- where the record has a name, it is a good one
-abbrev pub WellNamed : {M P : Type 0} → (M → Type 0) → Rec M P → Type 0
-WellNamed Good r = Kind.hasName (r .kind) (r .sub) ≡ true → Good (r .name)
+-- the record has a name, and its kind passes the test
+abbrev pub hasNameOf : {M P : Type 0} → (ℕ → Bool) → Rec M P → Bool
+hasNameOf test r = Kind.hasName (r .kind) (r .sub) && test (r .kind)
 
--- the contexts say the same of good names, and good names are declared with well named records
-pub record Agree {M N P : Type 0} (g : M → N) (Good : M → Type 0) (ctx : ValidationContext N P) (ctx′ : ValidationContext M P)
+-- a name that is asked for in some way is one of those that may be asked so
+pub record WellNamed {M P : Type 0} (Good Worded Spelled : M → Type 0) (r : Rec M P) : Type 0 where
+  pub good : hasNameOf isCompared r ≡ true → Good (r .name)
+  pub worded : hasNameOf isWorded r ≡ true → Worded (r .name)
+  pub spelled : hasNameOf isSpelled r ≡ true → Spelled (r .name)
+
+-- the contexts say the same of the names that may be asked for, and good names are declared with well named records
+pub record Agree {M N P : Type 0} (g : M → N) (Good Worded Spelled : M → Type 0) (ctx : ValidationContext N P) (ctx′ : ValidationContext M P)
     : Type 0 where
   pub declMap : (m : M) → Good m → ctx .declMap (g m) ≡ mapOption (renamedDeclared g) (ctx′ .declMap m)
-  pub inner : (m : M) → Good m → Holds (λ d. Holds (WellNamed Good) (d .inner)) (ctx′ .declMap m)
+  pub inner : (m : M) → Good m → Holds (λ d. Holds (WellNamed Good Worded Spelled) (d .inner)) (ctx′ .declMap m)
   pub importedNames : (m : M) → Good m → ctx .importedNames (g m) ≡ ctx′ .importedNames m
   pub hasWildcardImport : ctx .hasWildcardImport ≡ ctx′ .hasWildcardImport
   pub declarations : ctx .declarations ≡ ctx′ .declarations
   pub same : (m k : M) → Good m → Good k → ctx .same (g m) (g k) ≡ ctx′ .same m k
-  pub word : (m : M) → Good m → ctx .word (g m) ≡ ctx′ .word m
-  pub blank : (m : M) → Good m → ctx .blank (g m) ≡ ctx′ .blank m
-  pub isValidFieldName : (m : M) → Good m → ctx .isValidFieldName (g m) ≡ ctx′ .isValidFieldName m
+  pub word : (m : M) → Worded m → ctx .word (g m) ≡ ctx′ .word m
+  pub blank : (m : M) → Worded m → ctx .blank (g m) ≡ ctx′ .blank m
+  pub isValidFieldName : (m : M) → Spelled m → ctx .isValidFieldName (g m) ≡ ctx′ .isValidFieldName m
 
--- the contexts say the same of good names, and chains end in the same types
-pub record Alike {M N P : Type 0} (g : M → N) (Good : M → Type 0) (ctx : ValidationContext N P) (ctx′ : ValidationContext M P)
+-- the contexts say the same of the names that may be asked for, and chains end in the same types
+pub record Alike {M N P : Type 0} (g : M → N) (Good Worded Spelled : M → Type 0) (ctx : ValidationContext N P) (ctx′ : ValidationContext M P)
     : Type 0 where
   pub declared :
       (ask : ℕ → Bool) (m : M) → Good m →
       _≡_ {A = Bool} (elim (ctx .declMap (g m)) [ none ↦ false | some d ↦ ask (d .sub) ])
       (elim (ctx′ .declMap m) [ none ↦ false | some d ↦ ask (d .sub) ])
   pub end :
-      (r : Rec M P) → WellNamed Good r →
+      (r : Rec M P) → WellNamed Good Worded Spelled r →
       (chainEnd ctx (ctx .declarations) (renamed g r) ≡ renamed g (chainEnd ctx′ (ctx′ .declarations) r))
-      × WellNamed Good (chainEnd ctx′ (ctx′ .declarations) r)
+      × WellNamed Good Worded Spelled (chainEnd ctx′ (ctx′ .declarations) r)
   pub importedNames : (m : M) → Good m → ctx .importedNames (g m) ≡ ctx′ .importedNames m
   pub hasWildcardImport : ctx .hasWildcardImport ≡ ctx′ .hasWildcardImport
   pub same : (m k : M) → Good m → Good k → ctx .same (g m) (g k) ≡ ctx′ .same m k
-  pub word : (m : M) → Good m → ctx .word (g m) ≡ ctx′ .word m
-  pub blank : (m : M) → Good m → ctx .blank (g m) ≡ ctx′ .blank m
-  pub isValidFieldName : (m : M) → Good m → ctx .isValidFieldName (g m) ≡ ctx′ .isValidFieldName m
+  pub word : (m : M) → Worded m → ctx .word (g m) ≡ ctx′ .word m
+  pub blank : (m : M) → Worded m → ctx .blank (g m) ≡ ctx′ .blank m
+  pub isValidFieldName : (m : M) → Spelled m → ctx .isValidFieldName (g m) ≡ ctx′ .isValidFieldName m
 
--- a record of a kind with a name has one
-pub named : {N P : Type 0} (k : ℕ) → member k Kind.withName ≡ true → (r : Rec N P) → is k r ≡ true → Kind.hasName (r .kind) (r .sub) ≡ true
-named k h r e = rw (eqb-true (r .kind) k e, h)
+-- a record of a kind with a name has one, and passes the test that its kind passes
+pub named : {N P : Type 0} (test : ℕ → Bool) (k : ℕ) → member k Kind.withName ≡ true → test k ≡ true → (r : Rec N P) → is k r ≡ true → hasNameOf test r ≡ true
+named test k h t r e = rw (eqb-true (r .kind) k e, h, t)
 
--- the record's name is a good one
-abbrev pub GoodName : {M P : Type 0} → (M → Type 0) → Rec M P → Type 0
-GoodName Good r = Good (r .name)
-
-module _ {M N P : Type 0} {g : M → N} {Good : M → Type 0} {ctx : ValidationContext N P} {ctx′ : ValidationContext M P}
-    (alike : Alike g Good ctx ctx′) where
+module _ {M N P : Type 0} {g : M → N} {Good Worded Spelled : M → Type 0} {ctx : ValidationContext N P} {ctx′ : ValidationContext M P}
+    (alike : Alike g Good Worded Spelled ctx ctx′) where
   -- the name is declared with that sub
   pub as-renamed : (sub : ℕ) (m : M) → Good m → declaredAs ctx sub (g m) ≡ declaredAs ctx′ sub m
   as-renamed sub = alike .declared (λ s. eqb s sub)
 
   -- what a rule asks of a type of that name
   pub named-renamed :
-      (r : Rec M P) → WellNamed Good r → (ask : N → Bool) (ask′ : M → Bool) → ((m : M) → Good m → ask (g m) ≡ ask′ m) →
+      (r : Rec M P) → WellNamed Good Worded Spelled r → (ask : N → Bool) (ask′ : M → Bool) → ((m : M) → Good m → ask (g m) ≡ ask′ m) →
       (is Kind.Named r && ask (g (r .name))) ≡ (is Kind.Named r && ask′ (r .name))
   unfolding anyOf
   named-renamed r w ask ask′ e =
-      if-same _&&_ (is Kind.Named r) (ask (g (r .name))) (ask′ (r .name)) refl (λ h. e (r .name) (w (named Kind.Named refl r h)))
+      if-same _&&_ (is Kind.Named r) (ask (g (r .name))) (ask′ (r .name)) refl (λ h. e (r .name) (w .good (named isCompared Kind.Named refl refl r h)))
 
   -- the names met so far
   pub met-renamed :
       (m : M) → Good m → {names : List M} → Every Good names → anyOf (ctx .same (g m)) (map g names) ≡ anyOf (ctx′ .same m) names
   met-renamed m h hs = any-same g (ctx .same (g m)) (ctx′ .same m) (every-as (λ k h′. alike .same m k h h′) hs)
 
-module _ {M N P : Type 0} {g : M → N} {Good : M → Type 0} {ctx : ValidationContext N P} {ctx′ : ValidationContext M P}
-    (agree : Agree g Good ctx ctx′) where
+module _ {M N P : Type 0} {g : M → N} {Good Worded Spelled : M → Type 0} {ctx : ValidationContext N P} {ctx′ : ValidationContext M P}
+    (agree : Agree g Good Worded Spelled ctx ctx′) where
   abbrev Well : Rec M P → Type 0
-  Well = WellNamed Good
+  Well = WellNamed Good Worded Spelled
 
   -- chains
   behind-renamed :
@@ -131,13 +134,13 @@ module _ {M N P : Type 0} {g : M → N} {Good : M → Type 0} {ctx : ValidationC
       go :
           (b : Bool) → is Kind.Named r ≡ b → (behind ctx (renamed g r) ≡ mapOption (renamed g) (behind ctx′ r)) × Holds Well (behind ctx′ r)
       go true e =
-          let good = w (named Kind.Named refl r e) in
+          let good = w .good (named isCompared Kind.Named refl refl r e) in
           rw (e, behind, agree .declMap (r .name) good) (inner (ctx′ .declMap (r .name)) (agree .inner (r .name) good))
       go false e = rw (e, behind) (refl, tt)
 
   chain-renamed :
-      (n : ℕ) (r : Rec M P) → WellNamed Good r →
-      (chainEnd ctx n (renamed g r) ≡ renamed g (chainEnd ctx′ n r)) × WellNamed Good (chainEnd ctx′ n r)
+      (n : ℕ) (r : Rec M P) → WellNamed Good Worded Spelled r →
+      (chainEnd ctx n (renamed g r) ≡ renamed g (chainEnd ctx′ n r)) × WellNamed Good Worded Spelled (chainEnd ctx′ n r)
   unfolding chainEnd
   chain-renamed zero r w = (refl, w)
   chain-renamed (suc n) r w = rw (behind-renamed r w .0, chainEnd) (go (behind ctx′ r) (behind-renamed r w .1) (chain-renamed n))
@@ -154,15 +157,15 @@ module _ {M N P : Type 0} {g : M → N} {Good : M → Type 0} {ctx : ValidationC
 
   -- the type at the end of the chain
   end-renamed :
-      (r : Rec M P) → WellNamed Good r →
+      (r : Rec M P) → WellNamed Good Worded Spelled r →
       (chainEnd ctx (ctx .declarations) (renamed g r) ≡ renamed g (chainEnd ctx′ (ctx′ .declarations) r))
-      × WellNamed Good (chainEnd ctx′ (ctx′ .declarations) r)
+      × WellNamed Good Worded Spelled (chainEnd ctx′ (ctx′ .declarations) r)
   end-renamed r w =
       let chain = chain-renamed (ctx′ .declarations) r w in
       (ap (λ n. chainEnd ctx n (renamed g r)) (agree .declarations) ∙ chain .0, chain .1)
 
   -- whether a chain goes on after n steps
-  pub goes-renamed : (n : ℕ) (r : Rec M P) → WellNamed Good r → goesOn ctx n (renamed g r) ≡ goesOn ctx′ n r
+  pub goes-renamed : (n : ℕ) (r : Rec M P) → WellNamed Good Worded Spelled r → goesOn ctx n (renamed g r) ≡ goesOn ctx′ n r
   goes-renamed n r w =
       let end = chain-renamed n r w in
       let t : Rec M P = chainEnd ctx′ n r in
@@ -172,7 +175,7 @@ module _ {M N P : Type 0} {g : M → N} {Good : M → Type 0} {ctx : ValidationC
       there none = refl
       there (some t) = refl
 
-  pub never-renamed : (r : Rec M P) → WellNamed Good r → neverEnds ctx (renamed g r) ≡ neverEnds ctx′ r
+  pub never-renamed : (r : Rec M P) → WellNamed Good Worded Spelled r → neverEnds ctx (renamed g r) ≡ neverEnds ctx′ r
   never-renamed r w = ap (λ n. goesOn ctx n (renamed g r)) (agree .declarations) ∙ goes-renamed (ctx′ .declarations) r w
 
   leads-renamed : {rs : List (Rec M P)} → Every Well rs → leadsNowhere ctx (map (renamed g) rs) ≡ leadsNowhere ctx′ rs
@@ -181,7 +184,7 @@ module _ {M N P : Type 0} {g : M → N} {Good : M → Type 0} {ctx : ValidationC
 
   -- row 9
   pub endless-renamed :
-      (i : ℕ) {rs : List (Rec M P)} → Every (WellNamed Good) rs → endlessChain ctx i (map (renamed g) rs) ≡ endlessChain ctx′ i rs
+      (i : ℕ) {rs : List (Rec M P)} → Every (WellNamed Good Worded Spelled) rs → endlessChain ctx i (map (renamed g) rs) ≡ endlessChain ctx′ i rs
   unfolding endlessChain
   endless-renamed i every-nil = refl
   endless-renamed i (every-cons {x} w h) =
@@ -191,7 +194,7 @@ module _ {M N P : Type 0} {g : M → N} {Good : M → Type 0} {ctx : ValidationC
       ]
 
   -- contexts that say the same are alike
-  pub agree-alike : Alike g Good ctx ctx′
+  pub agree-alike : Alike g Good Worded Spelled ctx ctx′
   agree-alike =
       record {
         declared = asked;

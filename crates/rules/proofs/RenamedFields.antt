@@ -2,16 +2,17 @@
 -- under other names.
 use Prim.Native.Nat.{ℕ}
 use mathlib.Core.Path.{_≡_, refl, ap, ap₂, _∙_}
-use mathlib.Core.Bool.{Bool, true, false, not, _&&_, _||_, or-true}
+use mathlib.Core.Bool.{Bool, true, false, not, _&&_, _||_}
 use mathlib.Core.List.{List, [], _∷_, _++_, map, flatMap}
 use lib.ListN.{length}
 use lib.Dec.{leb, eqb, ltb}
 use native.Mathlib.Omega.{arith}
-use borrow.Author.Tests.{eqb-false, leb-true}
-use Rattle.rules.specs.Words.{within, onlyIf, firstIs, anyOf, select, front, rest, member, Item}
+use borrow.Author.Tests.{eqb-true, eqb-false, leb-true}
+use Rattle.rules.specs.Words.{within, onlyIf, firstIs, anyOf, select, rest, Item}
 use Rattle.rules.specs.Kind
 use Rattle.rules.specs.Sub
 use Rattle.rules.specs.Record.{Rec, is, isOf}
+use Rattle.rules.specs.Asked.{isCompared, isWorded, isSpelled}
 use Rattle.rules.specs.Context.{ValidationContext, declaredAs, isKnownType, isKnownConst, chainEnd, varint, zigzag, delta, limit, deprecated, doc, reason}
 use Rattle.rules.specs.Rule.{Found, foundIf}
 use Rattle.rules.specs.Types.{isText, isVarintValidType, isZigzagValidType, isDeltaValidType, isLimitValidType, isLimitCappedType, isNumericType, isCollectionType}
@@ -20,23 +21,30 @@ use Rattle.rules.specs.Types.{isInvalidMapKey, keyViolations, elementVio
 use Rattle.rules.specs.Conditions.{Literals, lengthLiterals, literalsOf, operandsOf, operandViolations, ownConditionViolations, conditionViolations}
 use Rattle.rules.specs.Bodies.{inAnnotations, inType, typePart, fieldViolations}
 use Rattle.rules.proofs.Lists.{and-left, and-right}
-use Rattle.rules.proofs.Every.{Every, EveryOf, every-nil, every-cons, every-front, every-rest, every-take, every-items, every-as, every-front-as}
+use Rattle.rules.proofs.Every.{Every, EveryOf, every-nil, every-cons, every-front, every-rest, every-take, every-items-as, every-as, every-front-as}
 use Rattle.rules.proofs.Mapped.{mapItem, take-map, firstIs-map, front-map, rest-map, items-map, any-same, select-same, flatMap-map, flatMap-same}
 use Rattle.rules.proofs.Unused.{if-same}
-use Rattle.rules.proofs.Renamed.{renamed, WellNamed, GoodName, Alike, named, as-renamed, named-renamed, met-renamed}
+use Rattle.rules.proofs.Renamed.{renamed, hasNameOf, WellNamed, Alike, named, as-renamed, named-renamed, met-renamed}
 
--- annotations and arguments have names
-annotated : {N P : Type 0} (r : Rec N P) → inAnnotations r ≡ true → Kind.hasName (r .kind) (r .sub) ≡ true
+-- the names of annotations and arguments may be words
+annotated : {N P : Type 0} (r : Rec N P) → inAnnotations r ≡ true → hasNameOf isWorded r ≡ true
 unfolding anyOf
 annotated r h = go (is Kind.Annotation r) refl
   where
-    go : (b : Bool) → is Kind.Annotation r ≡ b → Kind.hasName (r .kind) (r .sub) ≡ true
-    go true e = named Kind.Annotation refl r e
+    go : (b : Bool) → is Kind.Annotation r ≡ b → hasNameOf isWorded r ≡ true
+    go true e = named isWorded Kind.Annotation refl refl r e
     go false e =
         let low = leb-true Kind.Annotation (r .kind) (and-left (leb Kind.Annotation (r .kind)) _ h) in
         let high = leb-true (r .kind) Kind.Argument (and-right (leb Kind.Annotation (r .kind)) _ h) in
         let argument : r .kind ≡ Kind.Argument = omega (arith, eqb-false (r .kind) Kind.Annotation e) in
         rw argument
+
+-- the names of constants are compared
+constant : {N P : Type 0} (o : Rec N P) → isOf Kind.Operand Sub.ConstRef o ≡ true → hasNameOf isCompared o ≡ true
+unfolding anyOf
+constant o e =
+    let kind = eqb-true (o .kind) Kind.Operand (and-left (is Kind.Operand o) (eqb (o .sub) Sub.ConstRef) e) in
+    rw (and-right (is Kind.Operand o) (eqb (o .sub) Sub.ConstRef) e, kind)
 
 -- what is asked of a field's type, without its names
 module _ {M N P : Type 0} (g : M → N) where
@@ -69,10 +77,14 @@ module _ {M N P : Type 0} (g : M → N) where
         bool = first-renamed (isOf Kind.Primitive Sub.Bool) ty i;
       }
 
-module _ {M N P : Type 0} {g : M → N} {Good : M → Type 0} {ctx : ValidationContext N P} {ctx′ : ValidationContext M P}
-    (alike : Alike g Good ctx ctx′) where
+module _ {M N P : Type 0} {g : M → N} {Good Worded Spelled : M → Type 0} {ctx : ValidationContext N P} {ctx′ : ValidationContext M P}
+    (alike : Alike g Good Worded Spelled ctx ctx′) where
+  -- the record's name may be a word
+  abbrev WordedName : Rec M P → Type 0
+  WordedName r = Worded (r .name)
+
   -- types
-  pub key-renamed : (r : Rec M P) → WellNamed Good r → isInvalidMapKey ctx (renamed g r) ≡ isInvalidMapKey ctx′ r
+  pub key-renamed : (r : Rec M P) → WellNamed Good Worded Spelled r → isInvalidMapKey ctx (renamed g r) ≡ isInvalidMapKey ctx′ r
   unfolding isInvalidMapKey
   key-renamed r w =
       let end = alike .end r w in
@@ -87,7 +99,7 @@ module _ {M N P : Type 0} {g : M → N} {Good : M → Type 0} {ctx : ValidationC
       (λ m. declaredAs ctx′ Sub.Message m || declaredAs ctx′ Sub.Union m || declaredAs ctx′ Sub.Config m)
       (λ m h j. as-renamed alike Sub.Message m h j || as-renamed alike Sub.Union m h j || as-renamed alike Sub.Config m h j) i)
 
-  keys-renamed : {rs : List (Rec M P)} → Every (WellNamed Good) rs → keyViolations ctx (map (renamed g) rs) ≡ keyViolations ctx′ rs
+  keys-renamed : {rs : List (Rec M P)} → Every (WellNamed Good Worded Spelled) rs → keyViolations ctx (map (renamed g) rs) ≡ keyViolations ctx′ rs
   keys-renamed every-nil = refl
   keys-renamed (every-cons {x} w h) = ap (λ bad. foundIf 8 bad (x .place)) (key-renamed x w)
 
@@ -96,28 +108,28 @@ module _ {M N P : Type 0} {g : M → N} {Good : M → Type 0} {ctx : ValidationC
   elements-renamed (x ∷ rs) = refl
 
   bits-renamed :
-      (place : P) {bits : List (Rec M P)} → Every (GoodName Good) bits →
+      (place : P) {bits : List (Rec M P)} → Every (λ r. Spelled (r .name)) bits →
       bitNameViolations ctx place (map (renamed g) bits) ≡ bitNameViolations ctx′ place bits
   bits-renamed place every-nil = refl
   bits-renamed place (every-cons {x} h hs) =
       flatMap-same (renamed g)
       (λ bit. foundIf 12 (not (ctx .isValidFieldName (bit .name))) place)
       (λ bit. foundIf 12 (not (ctx′ .isValidFieldName (bit .name))) place)
-      (every-as (λ r good. ap (λ valid. foundIf 12 (not valid) place) (alike .isValidFieldName (r .name) good)) (every-cons {x = x} h hs))
+      (every-as (λ r spelled. ap (λ valid. foundIf 12 (not valid) place) (alike .isValidFieldName (r .name) spelled)) (every-cons {x = x} h hs))
 
   known-renamed : (m : M) → Good m → not (isKnownType ctx (g m)) ≡ not (isKnownType ctx′ m)
   known-renamed m h =
       λ i. not (alike .declared (λ s. true) m h i || alike .importedNames m h i || alike .hasWildcardImport i)
 
   own-type-renamed :
-      (t : Rec M P) {rs : List (Rec M P)} → WellNamed Good t → Every (WellNamed Good) rs →
+      (t : Rec M P) {rs : List (Rec M P)} → WellNamed Good Worded Spelled t → Every (WellNamed Good Worded Spelled) rs →
       ownTypeViolations ctx (renamed g t) (map (renamed g) rs) ≡ ownTypeViolations ctx′ t rs
   unfolding ownTypeViolations anyOf
   own-type-renamed t {rs} w h =
       let config = named-renamed alike t w (declaredAs ctx Sub.Config) (declaredAs ctx′ Sub.Config) (as-renamed alike Sub.Config) in
       let unknown = named-renamed alike t w (λ n. not (isKnownType ctx n)) (λ m. not (isKnownType ctx′ m)) known-renamed in
-      let good = every-front-as (is Kind.BitName) (λ r e v. v (named Kind.BitName refl r e)) h in
-      let bits = ap (bitNameViolations ctx (t .place)) (front-map (renamed g) (is Kind.BitName) rs) ∙ bits-renamed (t .place) good in
+      let spelled = every-front-as (is Kind.BitName) (λ r e w. w .spelled (named isSpelled Kind.BitName refl refl r e)) h in
+      let bits = ap (bitNameViolations ctx (t .place)) (front-map (renamed g) (is Kind.BitName) rs) ∙ bits-renamed (t .place) spelled in
       λ i. foundIf 6 (config i) (t .place)
       ++ foundIf 7 (unknown i) (t .place)
       ++ onlyIf (within Kind.Set Kind.Map (t .kind)) (keys-renamed h i)
@@ -126,7 +138,7 @@ module _ {M N P : Type 0} {g : M → N} {Good : M → Type 0} {ctx : ValidationC
       ++ onlyIf (is Kind.BitsInline t) (bits i)
 
   pub types-renamed :
-      (due : List Bool) {rs : List (Rec M P)} → Every (WellNamed Good) rs →
+      (due : List Bool) {rs : List (Rec M P)} → Every (WellNamed Good Worded Spelled) rs →
       typesViolations ctx due (map (renamed g) rs) ≡ typesViolations ctx′ due rs
   unfolding typesViolations
   types-renamed due every-nil = refl
@@ -138,19 +150,19 @@ module _ {M N P : Type 0} {g : M → N} {Good : M → Type 0} {ctx : ValidationC
             ++ types-renamed (map (λ part. checked && part) (checkedParts (x .kind)) ++ due) h i
       ]
 
-  -- annotations, all of whose names are good
-  reason-renamed : {a : Item (Rec M P)} → EveryOf (GoodName Good) a → hasReason ctx (mapItem (renamed g) a) ≡ hasReason ctx′ a
-  reason-renamed h = any-same (renamed g) _ _ (every-as (λ r good. ap (λ w. eqb w reason) (alike .word (r .name) good)) (h .rest))
+  -- annotations, all of whose names may be words
+  reason-renamed : {a : Item (Rec M P)} → EveryOf WordedName a → hasReason ctx (mapItem (renamed g) a) ≡ hasReason ctx′ a
+  reason-renamed h = any-same (renamed g) _ _ (every-as (λ r worded. ap (λ w. eqb w reason) (alike .word (r .name) worded)) (h .rest))
 
   limit-value-renamed :
-      (ty : List (Rec M P)) (place : P) (r : Rec M P) → GoodName Good r →
+      (ty : List (Rec M P)) (place : P) (r : Rec M P) → WordedName r →
       limitValueViolations ctx (map (renamed g) ty) place (renamed g r) ≡ limitValueViolations ctx′ ty place r
-  limit-value-renamed ty place r good =
-      λ i. onlyIf (alike .blank (r .name) good i && within Sub.IntArgument Sub.HexArgument (r .sub))
+  limit-value-renamed ty place r worded =
+      λ i. onlyIf (alike .blank (r .name) worded i && within Sub.IntArgument Sub.HexArgument (r .sub))
       (foundIf 18 (eqb (r .value) 0) place ++ foundIf 19 (ltb maxLimit (r .value) && capped-renamed g ty i) place)
 
   annotation-renamed :
-      (ty : List (Rec M P)) (a : Item (Rec M P)) → EveryOf (GoodName Good) a →
+      (ty : List (Rec M P)) (a : Item (Rec M P)) → EveryOf WordedName a →
       annotationViolations ctx (map (renamed g) ty) (mapItem (renamed g) a) ≡ annotationViolations ctx′ ty a
   unfolding annotationViolations
   annotation-renamed ty a h =
@@ -165,12 +177,13 @@ module _ {M N P : Type 0} {g : M → N} {Good : M → Type 0} {ctx : ValidationC
       ++ onlyIf (eqb (word i) limit) (values i)
       ++ onlyIf (eqb (word i) deprecated) (foundIf 20 (not (reasoned i)) place ++ foundIf 21 (reasoned i) place)
 
-  -- the names of an annotation and its arguments are good
-  abbrev GoodItem : Item (Rec M P) → Type 0
-  GoodItem = EveryOf (GoodName Good)
+  -- the annotation's name is compared and may be a word, and those of its arguments may be words
+  record GoodItem (a : Item (Rec M P)) : Type 0 where
+    good : Good (a .head .name)
+    worded : EveryOf WordedName a
 
   word-renamed : (w : ℕ) (a : Item (Rec M P)) → GoodItem a → isWord ctx w (mapItem (renamed g) a) ≡ isWord ctx′ w a
-  word-renamed w a h = ap (λ word. eqb word w) (alike .word (a .head .name) (h .head))
+  word-renamed w a h = ap (λ word. eqb word w) (alike .word (a .head .name) (h .worded .head))
 
   combined-renamed :
       {anns : List (Item (Rec M P))} → Every GoodItem anns →
@@ -188,25 +201,29 @@ module _ {M N P : Type 0} {g : M → N} {Good : M → Type 0} {ctx : ValidationC
   unfolding duplicateAnnotations
   duplicates-renamed hs every-nil = refl
   duplicates-renamed hs (every-cons {x = a} h anns) =
-      λ i. foundIf 22 (not (word-renamed doc a h i) && met-renamed alike (a .head .name) (h .head) hs i) (a .head .place)
-      ++ duplicates-renamed (every-cons (h .head) hs) anns i
+      λ i. foundIf 22 (not (word-renamed doc a h i) && met-renamed alike (a .head .name) (h .good) hs i) (a .head .place)
+      ++ duplicates-renamed (every-cons (h .good) hs) anns i
+
+  -- an annotation or an argument, well named
+  abbrev Annotated : Rec M P → Type 0
+  Annotated r = WordedName r × (is Kind.Annotation r ≡ true → Good (r .name))
 
   pub annotations-renamed :
-      (ty : List (Rec M P)) {rs : List (Rec M P)} → Every (GoodName Good) rs →
+      (ty : List (Rec M P)) {rs : List (Rec M P)} → Every Annotated rs →
       annotationsViolations ctx (map (renamed g) ty) (map (renamed g) rs) ≡ annotationsViolations ctx′ ty rs
   unfolding annotationsViolations
   annotations-renamed ty {rs} h =
-      let anns = every-items (is Kind.Annotation) h in
-      let own = flatMap-same (mapItem (renamed g)) _ (annotationViolations ctx′ ty) (every-as (annotation-renamed ty) anns) in
+      let anns = every-items-as {R = GoodItem} (is Kind.Annotation) (λ it e w. record { good = w .head .1 e; worded = record { head = w .head .0; rest = every-as (λ r v. v .0) (w .rest) } }) h in
+      let own = flatMap-same (mapItem (renamed g)) _ (annotationViolations ctx′ ty) (every-as (λ a w. annotation-renamed ty a (w .worded)) anns) in
       rw (items-map (renamed g) (is Kind.Annotation) rs) (λ i. combined-renamed anns i ++ own i ++ duplicates-renamed every-nil anns i)
 
   -- conditions
   operand-renamed :
-      (takes : Literals) (o : Rec M P) → WellNamed Good o →
+      (takes : Literals) (o : Rec M P) → WellNamed Good Worded Spelled o →
       operandViolations ctx takes (renamed g o) ≡ operandViolations ctx′ takes o
   unfolding operandViolations
   operand-renamed takes o w =
-      let good : isOf Kind.Operand Sub.ConstRef o ≡ true → GoodName Good o = λ e. w (rw e (or-true (member (o .kind) Kind.withName))) in
+      let good : isOf Kind.Operand Sub.ConstRef o ≡ true → Good (o .name) = λ e. w .good (constant o e) in
       let known : isOf Kind.Operand Sub.ConstRef o ≡ true → isKnownConst ctx (g (o .name)) ≡ isKnownConst ctx′ (o .name)
       = λ e i. as-renamed alike Sub.Const (o .name) (good e) i || alike .importedNames (o .name) (good e) i in
       let unknown = if-same (λ b k. b && not k) (isOf Kind.Operand Sub.ConstRef o) _ (isKnownConst ctx′ (o .name)) refl known in
@@ -217,7 +234,7 @@ module _ {M N P : Type 0} {g : M → N} {Good : M → Type 0} {ctx : ValidationC
       ++ foundIf 27 (unknown i) (o .place)
 
   own-condition-renamed :
-      (ty : List (Rec M P)) (c : Rec M P) {rs : List (Rec M P)} → Every (WellNamed Good) rs →
+      (ty : List (Rec M P)) (c : Rec M P) {rs : List (Rec M P)} → Every (WellNamed Good Worded Spelled) rs →
       ownConditionViolations ctx (map (renamed g) ty) (renamed g c) (map (renamed g) rs) ≡ ownConditionViolations ctx′ ty c rs
   unfolding ownConditionViolations
   own-condition-renamed ty c {rs} h =
@@ -237,18 +254,18 @@ module _ {M N P : Type 0} {g : M → N} {Good : M → Type 0} {ctx : ValidationC
           (every-as (operand-renamed takes) (every-take (length (Kind.partsOf (c .kind))) h))
 
   pub condition-renamed :
-      (ty : List (Rec M P)) {rs : List (Rec M P)} → Every (WellNamed Good) rs →
+      (ty : List (Rec M P)) {rs : List (Rec M P)} → Every (WellNamed Good Worded Spelled) rs →
       conditionViolations ctx (map (renamed g) ty) (map (renamed g) rs) ≡ conditionViolations ctx′ ty rs
   unfolding conditionViolations
   condition-renamed ty every-nil = refl
   condition-renamed ty (every-cons {x} w h) = ap₂ _++_ (own-condition-renamed ty x h) (condition-renamed ty h)
 
-  pub field-renamed : {rs : List (Rec M P)} → Every (WellNamed Good) rs → fieldViolations ctx (map (renamed g) rs) ≡ fieldViolations ctx′ rs
+  pub field-renamed : {rs : List (Rec M P)} → Every (WellNamed Good Worded Spelled) rs → fieldViolations ctx (map (renamed g) rs) ≡ fieldViolations ctx′ rs
   unfolding fieldViolations anyOf
   field-renamed {rs} h =
       let later : List (Rec M P) = rest inAnnotations rs in
       rw (front-map (renamed g) inAnnotations rs, rest-map (renamed g) inAnnotations rs)
       (rw (front-map (renamed g) inType later, rest-map (renamed g) inType later)
       (λ i. types-renamed (true ∷ []) (every-front inType (every-rest inAnnotations h)) i
-      ++ annotations-renamed (typePart rs) (every-front-as inAnnotations (λ r e w. w (annotated r e)) h) i
+      ++ annotations-renamed (typePart rs) (every-front-as inAnnotations (λ r e w. (w .worded (annotated r e), λ a. w .good (named isCompared Kind.Annotation refl refl r a))) h) i
       ++ condition-renamed (typePart rs) (every-rest inType (every-rest inAnnotations h)) i))

@@ -6,7 +6,6 @@ use mathlib.Core.List.{List}
 use native.Mathlib.Omega.{arith}
 use lib.Dec.{eqb}
 use borrow.Author.Tests.{ne-eqb}
-use Rattle.rules.specs.Words.{within}
 use Rattle.rules.specs.Context.{isDeclared, isKnownType}
 use Rattle.names.specs.View.{entryOf, declarationPart, importPart, codePart, wildcardOf, contextBy}
 use Rattle.types.specs.Own.{isKnownBy, isValidBy}
@@ -31,5 +30,5 @@ pub known-read :
     wildcard ≡ not (eqb (wildcardOf table) 0) → (not (eqb d 0) || imported || wildcard) ≡ isKnownBy table i
 known-read table i d imported wildcard h m w = rw (h, m, w)
 
-pub valid-read : (table : List ℕ) (i k : ℕ) → k ≡ entryOf codePart table i → (within 1 7 k || eqb k 9) ≡ isValidBy table i
+pub valid-read : (table : List ℕ) (i k : ℕ) → k ≡ entryOf codePart table i → eqb k 9 ≡ isValidBy table i
 valid-read table i k h = rw h

@@ -4,7 +4,7 @@ use Prim.Native.Nat.{ℕ}
 use mathlib.Core.Bool.{Bool, not, _&&_, _||_}
 use mathlib.Core.List.{List, [], _∷_, _++_, flatMap}
 use lib.Dec.{eqb}
-use Rattle.rules.specs.Words.{within, onlyIf, front}
+use Rattle.rules.specs.Words.{onlyIf, front}
 use Rattle.rules.specs.Kind
 use Rattle.rules.specs.Sub
 use Rattle.rules.specs.Record.{Rec, is}
@@ -19,7 +19,7 @@ isKnownBy table i = not (eqb (entryOf declarationPart table i) 0) || not (eqb (e
 
 -- the name of record i is one that a bit may have, by the table
 abbrev pub isValidBy : List ℕ → ℕ → Bool
-isValidBy table i = within 1 7 (entryOf codePart table i) || eqb (entryOf codePart table i) 9
+isValidBy table i = eqb (entryOf codePart table i) 9
 
 module _ {N P : Type 0} where
   -- rule 10 at an element, which is the first of the records

@@ -15,19 +15,14 @@ use rules::Span;
 use rules::Violation;
 use sheet::kinds;
 
-// The codes of names that a bit may have: the words that annotations and arguments know, and every other such name.
-const FIRST_WORD: u16 = 1;
-
-const LAST_WORD: u16 = 7;
-
+// The code of a name that a bit may have.
 const BIT: u16 = 9;
 
 // Whether the name of record `i` is one that a bit may have.
 fn is_valid_field_name(table: &[u16; 5122], i: usize) -> bool
     ensures { λ r. ⌜ r ≡ isValidBy (now (table .entry)) i ⌝ }
 {
-    let code = names::code(table, i);
-    ((FIRST_WORD <= code) & (code <= LAST_WORD)) | (code == BIT)
+    names::code(table, i) == BIT
 }
 
 // Whether the records start with a bit name.
