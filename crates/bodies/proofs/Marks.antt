@@ -32,12 +32,17 @@ unfolding latest
 length-latest numbers a zero = refl
 length-latest numbers a (suc n) = ap suc (length-latest numbers a n)
 
--- a number is among them, one of either half after the other
+-- a number is among them, asked in two windows, of which the second ends where they end
 or-turn : (p q b c : Bool) → ((p || q) || (b || c)) ≡ ((q || b) || (p || c))
 or-turn true true b c = refl
 or-turn true false true c = refl
 or-turn true false false c = refl
 or-turn false q b c = sym (or-assoc q b c)
+
+or-twice : (p q r : Bool) → ((p || q) || (q || r)) ≡ (p || (q || r))
+or-twice true q r = refl
+or-twice false true r = refl
+or-twice false false r = refl
 
 module _ (numbers : List ℕ) (x a : ℕ) where
   -- m of them, and n behind those
@@ -50,36 +55,67 @@ module _ (numbers : List ℕ) (x a : ℕ) where
       let place : a + m + n ≡ a + (m + n) = omega arith in
       rw (more, place) (or-assoc (eqb x (getD numbers (a + (m + n)) 0)) (member x (latest numbers (a + m) n)) (member x (latest numbers a m)) ∙ ap (λ b. eqb x (getD numbers (a + (m + n)) 0) || b) (contains-both m n))
 
-  abbrev pub InHalves : ℕ → Bool → ℕ → Type 0
-  InHalves middle found i = found ≡ (member x (latest numbers middle i) || member x (latest numbers a i))
+-- p of them before the second window, q in both, and r behind the first
+contains-windows :
+    (numbers : List ℕ) (x a p q r : ℕ) →
+    (member x (latest numbers (a + p) (r + q)) || member x (latest numbers a (p + q))) ≡ member x (latest numbers a (p + q + r))
+contains-windows numbers x a p q r =
+    let turn : r + q ≡ q + r = omega arith in
+    let place : a + p + q ≡ a + (p + q) = omega arith in
+    ap (λ n. member x (latest numbers (a + p) n) || member x (latest numbers a (p + q))) turn
+    ∙ sym
+    (ap (λ b. (member x (latest numbers (a + p + q) r) || member x (latest numbers (a + p) q)) || b) (contains-both numbers x a p q)
+    ∙ ap (λ b. b || member x (latest numbers a (p + q))) (contains-both numbers x (a + p) q r))
+    ∙ or-twice (member x (latest numbers (a + p + q) r)) (member x (latest numbers (a + p) q)) (member x (latest numbers a p))
+    ∙ ap (λ b. member x (latest numbers (a + p + q) r) || b) (contains-both numbers x a p q)
+    ∙ rw place (contains-both numbers x a (p + q) r)
 
-  pub halves-none : (middle : ℕ) → InHalves middle false 0
+module _ (numbers : List ℕ) (x a : ℕ) where
+  -- the first i of either window were asked
+  abbrev pub InWindows : ℕ → Bool → ℕ → Type 0
+  InWindows last found i = found ≡ (member x (latest numbers last i) || member x (latest numbers a i))
+
+  pub windows-none : (last : ℕ) → InWindows last false 0
   unfolding latest anyOf
-  halves-none middle = refl
+  windows-none last = refl
 
-  pub halves-next :
-      (middle i : ℕ) (found : Bool) → InHalves middle found i →
-      InHalves middle ((eqb x (getD numbers (a + i) 0) || eqb x (getD numbers (middle + i) 0)) || found) (i + 1)
+  pub windows-next :
+      (last i : ℕ) (found : Bool) → InWindows last found i →
+      InWindows last ((eqb x (getD numbers (a + i) 0) || eqb x (getD numbers (last + i) 0)) || found) (i + 1)
   unfolding latest anyOf
-  halves-next middle i found h = rw (add-one, h)
-      (or-turn (eqb x (getD numbers (a + i) 0)) (eqb x (getD numbers (middle + i) 0)) (member x (latest numbers middle i)) (member x (latest numbers a i)))
+  windows-next last i found h = rw (add-one, h)
+      (or-turn (eqb x (getD numbers (a + i) 0)) (eqb x (getD numbers (last + i) 0)) (member x (latest numbers last i)) (member x (latest numbers a i)))
 
-  pub halves-even :
-      (half i e : ℕ) (found : Bool) → InHalves (a + half) found i → i ≤ half → half ≤ i → e - a ≡ half + half → found ≡ member x (latest numbers a (e - a))
-  halves-even half i e found h le ge size =
-      let same : i ≡ half = omega arith in
-      rw size (h ∙ ap (λ n. member x (latest numbers (a + half) n) || member x (latest numbers a n)) same ∙ contains-both half half)
+  windows-meet :
+      (p q last i n : ℕ) (found : Bool) → InWindows last found i → last ≡ a + p → i ≡ p + q → n ≡ p + q + p → found ≡ member x (latest numbers a n)
+  windows-meet p q last i n found h start same size =
+      rw size ((rw (start, same) at h) ∙ contains-windows numbers x a p q p)
 
-  pub halves-odd :
-      (half i e : ℕ) (found : Bool) → InHalves (a + half) found i → i ≤ half → half ≤ i → e - a ≡ suc (half + half) →
-      (eqb x (getD numbers (e - 1) 0) || found) ≡ member x (latest numbers a (e - a))
+  -- windows that leave no gap
+  pub windows-all :
+      (e window last i : ℕ) (found : Bool) → a ≤ e → InWindows last found i → i ≤ window → window ≤ i → window ≤ e - a → e - a ≤ window + window →
+      last ≡ e - window → found ≡ member x (latest numbers a (e - a))
+  windows-all e window last i found order h le ge room cover place =
+      windows-meet (e - a - window) (window - (e - a - window)) last i (e - a) found h (omega arith) (omega arith) (omega arith)
+
+-- asked one by one
+module _ (numbers : List ℕ) (x a : ℕ) where
+  abbrev pub AskedBefore : Bool → ℕ → Type 0
+  AskedBefore found i = (a ≤ i) × (found ≡ member x (latest numbers a (i - a)))
+
+  pub before-none : AskedBefore false a
   unfolding latest anyOf
-  halves-odd half i e found h le ge size =
-      let same : i ≡ half = omega arith in
-      let last : e - 1 ≡ a + (half + half) = omega arith in
-      rw (size, last)
-      (ap (λ b. eqb x (getD numbers (a + (half + half)) 0) || b)
-      (h ∙ ap (λ n. member x (latest numbers (a + half) n) || member x (latest numbers a n)) same ∙ contains-both half half))
+  before-none = let none : a - a ≡ 0 = omega arith in (omega arith, rw none)
+
+  pub before-next : (i : ℕ) (found : Bool) → AskedBefore found i → AskedBefore (eqb x (getD numbers i 0) || found) (i + 1)
+  unfolding latest anyOf
+  before-next i found asked =
+      let more : i + 1 - a ≡ suc (i - a) = omega arith in
+      let place : a + (i - a) ≡ i = omega arith in
+      (omega arith, rw (more, place, asked .1))
+
+  pub before-all : (e i : ℕ) (found : Bool) → AskedBefore found i → i ≤ e → e ≤ i → found ≡ member x (latest numbers a (e - a))
+  before-all e i found asked le ge = let same : e ≡ i = omega arith in rw same (asked .1)
 
 -- none has its mark yet
 pub marked-none : (numbers marks : List ℕ) → Marked numbers marks 0
@@ -90,28 +126,36 @@ pub marked-fewer : (numbers marks : List ℕ) (m n : ℕ) → m ≤ n → Marked
 unfolding Marked
 marked-fewer numbers marks m n le all j h = all j (omega arith)
 
+-- one mark more
+marked-set : (numbers marks : List ℕ) (n p : ℕ) → p < length marks → Marked numbers marks n → Marked numbers (set marks p 1) n
+unfolding Marked
+marked-set numbers marks n p room all j h z = go (ℕ-discrete (getD numbers j 0 % 1021) p)
+  where
+    go : Dec (getD numbers j 0 % 1021 ≡ p) → ⊥
+    go (yes same) =
+        let one : getD (set marks p 1) (getD numbers j 0 % 1021) 0 ≡ 1 = rw same (getD-set-same marks p 1 0 room) in omega arith
+    go (no differ) = all j h (sym (getD-set-other marks p (getD numbers j 0 % 1021) 1 0 differ) ∙ z)
+
+-- one number more, which has its mark already
+pub marked-more :
+    (numbers marks : List ℕ) (n v : ℕ) → n < length numbers → (getD marks (v % 1021) 0 ≡ 0 → ⊥) → Marked numbers marks n → Marked (set numbers n v) marks (n + 1)
+unfolding Marked
+marked-more numbers marks n v room one all j h z = go (ℕ-discrete j n)
+  where
+    go : Dec (j ≡ n) → ⊥
+    go (yes same) =
+        let here : getD (set numbers n v) j 0 ≡ v = rw same (getD-set-same numbers n v 0 room) in one (rw here at z)
+    go (no differ) = all j (omega arith) (rw (getD-set-other numbers n j v 0 differ) at z)
+
 -- a number and its mark
 pub marked-store :
     (numbers marks : List ℕ) (n v : ℕ) → n < length numbers → length marks ≡ 1021 → Marked numbers marks n →
     Marked (set numbers n v) (set marks (v % 1021) 1) (n + 1)
-unfolding Marked
-marked-store numbers marks n v room size all j h z = go (ℕ-discrete j n)
-  where
-    kept : (d : ℕ) → Dec (d ≡ v % 1021) → getD (set marks (v % 1021) 1) d 0 ≡ 0 → getD marks d 0 ≡ 0
-    kept d (yes same) e =
-        let one : getD (set marks (v % 1021) 1) d 0 ≡ 1 = rw same (getD-set-same marks (v % 1021) 1 0 (omega arith)) in
-        absurd (omega arith)
-    kept d (no differ) e = sym (getD-set-other marks (v % 1021) d 1 0 differ) ∙ e
-
-    go : Dec (j ≡ n) → ⊥
-    go (yes same) =
-        let here : getD (set numbers n v) j 0 ≡ v = rw same (getD-set-same numbers n v 0 room) in
-        let one : getD (set marks (v % 1021) 1) (v % 1021) 0 ≡ 1 = getD-set-same marks (v % 1021) 1 0 (omega arith) in
-        let none : getD (set marks (v % 1021) 1) (v % 1021) 0 ≡ 0 = rw here at z in
-        omega arith
-    go (no differ) =
-        all j (omega arith)
-        (kept (getD numbers j 0 % 1021) (ℕ-discrete (getD numbers j 0 % 1021) (v % 1021)) (rw (getD-set-other numbers n j v 0 differ) at z))
+marked-store numbers marks n v room size all =
+    let place : v % 1021 < length marks = omega arith in
+    marked-more numbers (set marks (v % 1021) 1) n v room
+    (λ z. let one : getD (set marks (v % 1021) 1) (v % 1021) 0 ≡ 1 = getD-set-same marks (v % 1021) 1 0 place in omega arith)
+    (marked-set numbers marks n (v % 1021) place all)
 
 -- a number whose mark is 0 was not met
 module _ (numbers marks : List ℕ) (x a e p : ℕ) (hp : p ≡ x % 1021) (z : getD marks p 0 ≡ 0) (all : Marked numbers marks e) where

@@ -14,9 +14,9 @@ use Rattle.rules.specs.Refusals.{maxOrdinal}
 use Rattle.rules.proofs.Joined.{length-select}
 use Rattle.names.specs.View.{viewAt, viewFrom, viewOf}
 use Rattle.types.proofs.Views.{view-cons}
-use Rattle.bodies.specs.Seen.{latest, narrow, Marked, Known, ToMeet, MetAt}
+use Rattle.bodies.specs.Seen.{latest, narrow, Marked, Kept, Known, ToMeet, MetAt}
 use Rattle.bodies.specs.Earlier.{valuesOf, earlier, valuesBefore}
-use Rattle.bodies.proofs.Marks.{latest-above, latest-store, length-latest, marked-fewer, marked-store, unmarked}
+use Rattle.bodies.proofs.Marks.{latest-above, latest-store, length-latest, marked-fewer, marked-more, marked-store, unmarked}
 use Rattle.bodies.proofs.Narrow.{narrow-kept, narrow-out, narrow-member}
 
 -- the records of a kind before the next record
@@ -108,10 +108,31 @@ module _ (kind tomb : ℕ) (sheet : List ℕ) (a e : ℕ) where
       k .7,
     )
 
+  -- a number that row 5 lets through is one of those kept if a record has it
+  module _ (tombstones : ℕ) (numbers : List ℕ) (len i v n : ℕ) (k : Kept kind tomb sheet a e tombstones numbers len i) (small : v ≤ 4294967295) (hn : n ≡ v) where
+    pub kept-gone : (found : Bool) → found ≡ member n (latest numbers 0 (tombstones - 0)) → found ≡ member v gone
+    kept-gone found h =
+        let whole : tombstones - 0 ≡ tombstones = omega arith in
+        h
+        ∙ ap (λ x. member x (latest numbers 0 (tombstones - 0))) hn
+        ∙ ap (λ l. member v (latest numbers 0 l)) whole
+        ∙ ap (member v) (k .4)
+        ∙ narrow-member v gone small
+
+    pub kept-before : (found : Bool) → found ≡ member n (latest numbers tombstones (len - tombstones)) → found ≡ member v (values (before i))
+    kept-before found h =
+        h
+        ∙ ap (λ x. member x (latest numbers tombstones (len - tombstones))) hn
+        ∙ ap (member v) (k .5)
+        ∙ narrow-member v (values (before i)) small
+
   module _ (tombstones : ℕ) (numbers marks : List ℕ) (len i v : ℕ) (m : ToMeet kind tomb sheet a e tombstones numbers marks len i v) where
     -- there is room for one number more
     pub met-room : len < 1024
     met-room = omega (arith, m .3 .4, left-member kind sheet i e (m .0) (m .1))
+
+    pub met-asks : Kept kind tomb sheet a e tombstones numbers len i
+    met-asks = (m .3 .2, m .0, m .3 .3, met-room, m .3 .5, m .3 .6)
 
     next : v ∷ values (before i) ≡ valuesBefore kind sheet a (i + 1)
     unfolding viewAt
@@ -138,48 +159,48 @@ module _ (kind tomb : ℕ) (sheet : List ℕ) (a e : ℕ) where
         )
 
     -- and one that it does
-    known-kept : v ≤ 4294967295 → Known kind tomb sheet a e tombstones (set numbers len v) (set marks (v % 1021) 1) (len + 1) (i + 1)
-    known-kept small =
+    known-kept :
+        (marks' : List ℕ) → v ≤ 4294967295 → length marks' ≡ 1021 → Marked (set numbers len v) marks' (len + 1) →
+        Known kind tomb sheet a e tombstones (set numbers len v) marks' (len + 1) (i + 1)
+    known-kept marks' small size all =
         let k = m .3 in
-        let room : len < length numbers = omega (arith, k .0, met-room) in
         let more : len + 1 - tombstones ≡ len - tombstones + 1 = omega (arith, k .3) in (
           length-set numbers len v ∙ k .0,
-          length-set marks (v % 1021) 1 ∙ k .1,
+          size,
           omega (arith, k .2),
           omega (arith, k .3),
           omega (arith, k .4, left-member kind sheet i e (m .0) (m .1)),
           latest-above numbers len v 0 tombstones (omega (arith, k .3)) ∙ k .5,
           ap (latest (set numbers len v) tombstones) more
-              ∙ latest-store numbers tombstones (len - tombstones) len v (omega (arith, k .3)) room
+              ∙ latest-store numbers tombstones (len - tombstones) len v (omega (arith, k .3)) (omega (arith, k .0, met-room))
               ∙ ap (λ xs. v ∷ xs) (k .6)
               ∙ sym (narrow-kept v (values (before i)) small)
               ∙ ap narrow next,
-          marked-store numbers marks len v room (k .1) (k .7),
+          all,
         )
 
     module _ (n p : ℕ) (small : v ≤ 4294967295) (hn : n ≡ v) (hp : p ≡ n % 1021) where
-      pub met-kept :
-          (tombstoned met : Bool) → tombstoned ≡ member n (latest numbers 0 (tombstones - 0)) →
-          met ≡ member n (latest numbers tombstones (len - tombstones)) →
-          MetAt kind tomb sheet a e tombstones (set numbers len n) (set marks p 1) i v (record { tombstoned = tombstoned; met = met; len = len + 1 })
-      met-kept tombstoned met ht hm =
-          let whole : tombstones - 0 ≡ tombstones = omega arith in (
-            ht
-                ∙ ap (λ x. member x (latest numbers 0 (tombstones - 0))) hn
-                ∙ ap (λ l. member v (latest numbers 0 l)) whole
-                ∙ ap (member v) (m .3 .5)
-                ∙ narrow-member v gone small,
-            hm
-                ∙ ap (λ x. member x (latest numbers tombstones (len - tombstones))) hn
-                ∙ ap (member v) (m .3 .6)
-                ∙ narrow-member v (values (before i)) small,
-            rw (hp, hn) (known-kept small),
+      -- whose mark is set already
+      pub met-again :
+          (tombstoned met : Bool) → (getD marks p 0 ≡ 0 → ⊥) → tombstoned ≡ member v gone → met ≡ member v (values (before i)) →
+          MetAt kind tomb sheet a e tombstones (set numbers len n) marks i v (record { tombstoned = tombstoned; met = met; len = len + 1 })
+      met-again tombstoned met one ht hm =
+          let set-already : getD marks (v % 1021) 0 ≡ 0 → ⊥ = rw (hp, hn) at one in (
+            ht,
+            hm,
+            rw hn
+                (known-kept marks small (m .3 .1)
+                (marked-more numbers marks len v (omega (arith, m .3 .0, met-room)) set-already (m .3 .7))),
           )
 
-      -- whose mark is 0
+      -- whose mark is 0: no record before has it
       pub met-new :
           getD marks p 0 ≡ 0 → MetAt kind tomb sheet a e tombstones (set numbers len n) (set marks p 1) i v (record { tombstoned = false; met = false; len = len + 1 })
-      met-new z =
-          met-kept false false
-          (unmarked numbers marks n 0 tombstones p hp z (marked-fewer numbers marks tombstones len (m .3 .3) (m .3 .7)) (omega arith))
-          (unmarked numbers marks n tombstones len p hp z (m .3 .7) (m .3 .3))
+      met-new z = (
+        kept-gone tombstones numbers len i v n met-asks small hn false
+            (unmarked numbers marks n 0 tombstones p hp z (marked-fewer numbers marks tombstones len (m .3 .3) (m .3 .7)) (omega arith)),
+        kept-before tombstones numbers len i v n met-asks small hn false (unmarked numbers marks n tombstones len p hp z (m .3 .7) (m .3 .3)),
+        rw (hp, hn)
+            (known-kept (set marks (v % 1021) 1) small (length-set marks (v % 1021) 1 ∙ m .3 .1)
+            (marked-store numbers marks len v (omega (arith, m .3 .0, met-room)) (m .3 .1) (m .3 .7))),
+      )

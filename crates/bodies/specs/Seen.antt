@@ -25,6 +25,17 @@ narrow = select (λ n. leb n maxOrdinal)
 unfoldable pub Marked : List ℕ → List ℕ → ℕ → Type 0
 Marked numbers marks n = (j : ℕ) → j < n → getD marks (getD numbers j 0 % 1021) 0 ≡ 0 → ⊥
 
+-- in a list at records a up to e, the numbers kept before record i: the ordinals of all tombstones, and then those of the items of that kind before it, of
+-- each those that row 5 lets through
+abbrev pub Kept : ℕ → ℕ → List ℕ → ℕ → ℕ → ℕ → List ℕ → ℕ → ℕ → Type 0
+Kept kind tombstone sheet a e tombstones numbers len i =
+    (a ≤ i)
+    × (i < e)
+    × (tombstones ≤ len)
+    × (len < 1024)
+    × (latest numbers 0 tombstones ≡ narrow (valuesOf tombstone (viewOf sheet a e)))
+    × (latest numbers tombstones (len - tombstones) ≡ narrow (valuesBefore kind sheet a i))
+
 -- a list at records a up to e whose items are of that kind
 module _ (kind tombstone : ℕ) (sheet : List ℕ) (a e tombstones : ℕ) (numbers marks : List ℕ) where
   -- the numbers kept are the ordinals of all tombstones, and then those of the items before record i, of each those that row 5 lets through; they have

@@ -16,7 +16,28 @@ pub struct OrdinalRules {
     pub duplicate: u16,
 }
 
-// Adds what is wrong with the ordinal of record `i`, test by test.
+// Adds what is wrong with the ordinal of record `i`, which is that number, test by test.
+fn test_ordinal(
+    sheet: &[u8],
+    list: &mut [u8],
+    counts: Counts,
+    i: usize,
+    ordinal: u64,
+    rules: OrdinalRules,
+    tombstoned: bool,
+    met: bool,
+) -> Counts
+    requires { ⌜ ordinal ≡ valueIn (recordBytes (now sheet) i) ⌝ }
+    ensures { λ r. ⌜ _≡_ {A = List ℕ × Counts} (now (list .exit), r) (pushOrdinal rules (now (sheet .entry)) i tombstoned met (now (list .entry), counts)) ⌝ }
+{
+    let span = sheet::ordinal_span(sheet, i);
+    let over = rules.greatest < ordinal;
+    let counts = error_if(list, counts, over, span, rules.too_large);
+    let counts = error_if(list, counts, tombstoned, span, rules.reused);
+    error_if(list, counts, !tombstoned & met, span, rules.duplicate)
+}
+
+// Adds what is wrong with the ordinal of record `i`.
 pub fn tell_ordinal(
     sheet: &[u8],
     list: &mut [u8],
@@ -28,11 +49,8 @@ pub fn tell_ordinal(
 ) -> Counts
     ensures { λ r. ⌜ _≡_ {A = List ℕ × Counts} (now (list .exit), r) (pushOrdinal rules (now (sheet .entry)) i tombstoned met (now (list .entry), counts)) ⌝ }
 {
-    let span = sheet::ordinal_span(sheet, i);
-    let over = rules.greatest < sheet::value(sheet, i);
-    let counts = error_if(list, counts, over, span, rules.too_large);
-    let counts = error_if(list, counts, tombstoned, span, rules.reused);
-    error_if(list, counts, !tombstoned & met, span, rules.duplicate)
+    let ordinal = sheet::value(sheet, i);
+    test_ordinal(sheet, list, counts, i, ordinal, rules, tombstoned, met)
 }
 
 // Adds what is wrong with the ordinal of record `i`, which is that number.
@@ -52,5 +70,5 @@ pub fn check_ordinal(
     if !tombstoned & !met & (ordinal <= rules.greatest) {
         return counts;
     }
-    tell_ordinal(sheet, list, counts, i, rules, tombstoned, met)
+    test_ordinal(sheet, list, counts, i, ordinal, rules, tombstoned, met)
 }

@@ -5,7 +5,7 @@ ghost use lib.ListN.{length};
 ghost use Rattle.rules.specs.Words.{member};
 ghost use Rattle.names.specs.View.{viewOf};
 ghost use Rattle.bodies.specs.Earlier.{valuesOf, valuesBefore};
-ghost use Rattle.bodies.specs.Seen.{latest, narrow, Marked, ToMeet, MetAt};
+ghost use Rattle.bodies.specs.Seen.{latest, narrow, Marked, Kept, ToMeet, MetAt};
 use rules::Sheet;
 
 // The numbers already met, at most 1024, with their count. Marks lie beside them: where the mark of a number is 0, the number was not met. A number that
@@ -22,21 +22,37 @@ fn mark(ordinal: u32) -> usize
     (ordinal % 1021) as usize
 }
 
-// Whether the number is among those from place `a` up to place `e`, of which each turn asks one of either half.
+// Whether the number is among those from place `a` up to place `e`, asked one by one.
+fn is_in(ordinals: &[u32; 1024], a: usize, e: usize, ordinal: u32) -> bool
+    requires { ⌜ (a ≤ e) × (e ≤ 1024) ⌝ }
+    ensures { λ r. ⌜ r ≡ member ordinal (latest (now (ordinals .entry)) a (e - a)) ⌝ }
+{
+    let mut found = false;
+    let mut i = a;
+    while i < e {
+        found = (ordinal == ordinals[i]) | found;
+        i += 1;
+    }
+    found
+}
+
+// Whether the number is among those from place `a` up to place `e`. Each turn asks one of the first and one of the last of them: two windows, which overlap
+// where they must for the turns to be a multiple of 8, as many as the compiled code takes at once.
 fn contains(ordinals: &[u32; 1024], a: usize, e: usize, ordinal: u32) -> bool
     requires { ⌜ (a ≤ e) × (e ≤ 1024) ⌝ }
     ensures { λ r. ⌜ r ≡ member ordinal (latest (now (ordinals .entry)) a (e - a)) ⌝ }
 {
-    let half = (e - a) / 2;
-    let middle = a + half;
+    let count = e - a;
+    if count < 8 {
+        return is_in(ordinals, a, e, ordinal);
+    }
+    let window = (count + 15) / 16 * 8;
+    let last = e - window;
     let mut found = false;
     let mut i = 0;
-    while i < half {
-        found = (ordinal == ordinals[a + i]) | (ordinal == ordinals[middle + i]) | found;
+    while i < window {
+        found = (ordinal == ordinals[a + i]) | (ordinal == ordinals[last + i]) | found;
         i += 1;
-    }
-    if middle + half < e {
-        return (ordinal == ordinals[e - 1]) | found;
     }
     found
 }
@@ -95,18 +111,16 @@ pub fn collect(
     len
 }
 
-// Whether a tombstone has an ordinal, whether an item before has it, and how many numbers are kept with it.
-pub struct Meeting {
-    pub tombstoned: bool,
-    pub met: bool,
-    pub len: usize,
+// Whether a tombstone has an ordinal, and whether an item before has it.
+struct Told {
+    tombstoned: bool,
+    met: bool,
 }
 
-// Meets the ordinal of record `i`, whatever its mark says: asks the numbers that are kept, or the records where it is not to be kept.
-fn meet_again(
+// Tells of the ordinal of record `i`, whatever its mark says: asks the numbers that are kept, or the records where it is not to be kept.
+fn tell(
     sheet: &[u8],
-    ordinals: &mut [u32; 1024],
-    marks: &mut [u8; 1021],
+    ordinals: &[u32; 1024],
     kind: u8,
     tombstone: u8,
     a: usize,
@@ -115,33 +129,30 @@ fn meet_again(
     tombstones: usize,
     len: usize,
     ordinal: u64,
-) -> Meeting
-    requires { ⌜ ToMeet kind tombstone (now sheet) a e tombstones (now ordinals) (now marks) len i ordinal ⌝ }
-    ensures { λ r. ⌜ MetAt kind tombstone (now (sheet .entry)) a e tombstones (now (ordinals .exit)) (now (marks .exit)) i ordinal r ⌝ }
+) -> Told
+    requires { ⌜ Kept kind tombstone (now sheet) a e tombstones (now ordinals) len i ⌝ }
+    ensures { λ r. ⌜ (r .tombstoned ≡ member ordinal (valuesOf tombstone (viewOf (now (sheet .entry)) a e))) × (r .met ≡ member ordinal (valuesBefore kind (now (sheet .entry)) a i)) ⌝ }
 {
     if Sheet::MAX_ORDINAL < ordinal {
         let tombstoned = is_among(sheet, tombstone, a, e, ordinal);
         let met = is_among(sheet, kind, a, i, ordinal);
-        return Meeting {
-            tombstoned,
-            met,
-            len,
-        };
+        return Told { tombstoned, met };
     }
     let number = short(ordinal);
     let tombstoned = contains(ordinals, 0, tombstones, number);
     let met = contains(ordinals, tombstones, len, number);
-    ordinals[len] = number;
-    marks[mark(number)] = 1;
-    Meeting {
-        tombstoned,
-        met,
-        len: len + 1,
-    }
+    Told { tombstoned, met }
+}
+
+// Whether a tombstone has an ordinal, whether an item before has it, and how many numbers are kept with it.
+pub struct Meeting {
+    pub tombstoned: bool,
+    pub met: bool,
+    pub len: usize,
 }
 
 // Meets the ordinal of record `i`, an item of that kind in the list at records `a` up to `e`: says whether it was met, and keeps it behind those met. Most
-// have a mark of 0. The others are met by a call, which stands twice, and whose answer is taken apart: so the compiler keeps it out of the lists' loops.
+// have a mark of 0. The others are told of by a call, which stands twice, and whose answer is taken apart: so the compiler keeps it out of the lists' loops.
 pub fn meet(
     sheet: &[u8],
     ordinals: &mut [u32; 1024],
@@ -159,10 +170,9 @@ pub fn meet(
     ensures { λ r. ⌜ MetAt kind tombstone (now (sheet .entry)) a e tombstones (now (ordinals .exit)) (now (marks .exit)) i ordinal r ⌝ }
 {
     if Sheet::MAX_ORDINAL < ordinal {
-        let again = meet_again(
+        let told = tell(
             sheet,
             ordinals,
-            marks,
             kind,
             tombstone,
             a,
@@ -173,18 +183,17 @@ pub fn meet(
             ordinal,
         );
         return Meeting {
-            tombstoned: again.tombstoned,
-            met: again.met,
-            len: again.len,
+            tombstoned: told.tombstoned,
+            met: told.met,
+            len,
         };
     }
     let number = short(ordinal);
     let m = mark(number);
     if marks[m] != 0 {
-        let again = meet_again(
+        let told = tell(
             sheet,
             ordinals,
-            marks,
             kind,
             tombstone,
             a,
@@ -194,10 +203,11 @@ pub fn meet(
             len,
             ordinal,
         );
+        ordinals[len] = number;
         return Meeting {
-            tombstoned: again.tombstoned,
-            met: again.met,
-            len: again.len,
+            tombstoned: told.tombstoned,
+            met: told.met,
+            len: len + 1,
         };
     }
     ordinals[len] = number;
