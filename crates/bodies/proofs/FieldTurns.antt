@@ -113,11 +113,11 @@ module _ (table sheet : List ℕ) (a e : ℕ) (gone : List ℕ) where
   field-inner i le h st =
       turn-inner ctx fieldScheme (fieldItemViolations ctx) startsFieldItem 11 sheet a e gone i le h st (field-not (at i) st)
 
-  -- the ordinal and the name, and then the parts
-  pub item-found :
-      (i end : ℕ) (tombstoned again renamed : Bool) (s t u : State) →
-      t ≡ pushFound (memberFound fieldScheme tombstoned again renamed (at i)) s →
-      u ≡ pushFound (fieldViolations ctx (viewOf sheet (i + 1) end)) t →
-      u ≡ pushFound (fieldFound table sheet i end tombstoned again renamed) s
-  unfolding fieldFound
-  item-found i end tombstoned again renamed s t u ht hu = found-then _ _ s t u ht hu
+-- the ordinal and the name, and then the parts
+pub item-found :
+    (table sheet : List ℕ) (i end : ℕ) (tombstoned again renamed : Bool) (s t u : State) →
+    t ≡ pushFound (memberFound fieldScheme tombstoned again renamed (viewAt sheet i)) s →
+    u ≡ pushFound (fieldViolations (contextBy table sheet) (viewOf sheet (i + 1) end)) t →
+    u ≡ pushFound (fieldFound table sheet i end tombstoned again renamed) s
+unfolding fieldFound
+item-found table sheet i end tombstoned again renamed s t u ht hu = found-then _ _ s t u ht hu

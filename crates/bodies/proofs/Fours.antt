@@ -5,20 +5,14 @@ use mathlib.Core.Bool.{true}
 use mathlib.Core.List.{List}
 use native.Mathlib.Decide.{ℕ-discrete}
 use native.Mathlib.Omega.{arith}
-use lib.ListN.{drop, getD}
+use lib.ListN.{getD}
 use lib.Dec.{eqb}
-use lib.Seq.{getD-take, getD-drop}
 use borrow.Author.Tests.{eq-eqb, eqb-true}
 use Rattle.rules.specs.Kind
-use Rattle.rules.specs.Record.{is, recordBytes, kindIn}
+use Rattle.rules.specs.Record.{is}
 use Rattle.names.specs.View.{viewAt}
 use Rattle.bodies.specs.Runs.{AllIn}
-
--- a record's kind is its first byte
-first-byte : (sheet : List ℕ) (i at : ℕ) → at ≡ i * 32 → kindIn (recordBytes sheet i) ≡ getD sheet at 0
-first-byte sheet i at place =
-    let same : 32 * i + 0 ≡ at = omega arith in
-    getD-take 32 (drop (32 * i) sheet) 0 0 (omega arith) ∙ getD-drop (32 * i) sheet 0 0 ∙ rw same
+use Rattle.bodies.proofs.WholeRecords.{first-byte}
 
 optional-byte : (sheet : List ℕ) (i at : ℕ) → at ≡ i * 32 → getD sheet at 0 ≡ Kind.Optional → is Kind.Optional (viewAt sheet i) ≡ true
 unfolding viewAt

@@ -1,5 +1,6 @@
 pub mod Among
 pub mod Backings
+pub mod BareFields
 pub mod Bits
 pub mod BodyItems
 pub mod Collecting
@@ -19,3 +20,4 @@ pub mod RunEnds
 pub mod SingleField
 pub mod Turns
 pub mod Variants
+pub mod WholeRecords

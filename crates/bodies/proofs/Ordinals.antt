@@ -107,15 +107,24 @@ field-fine sheet i ordinal false false false s ho h =
 
 -- the rules of a field's ordinal and name
 pub field-members :
-    (sheet : List ℕ) (i : ℕ) (tombstoned met again : Bool) (span : Span) (s u v : State) →
-    u ≡ pushOrdinal (record { greatest = 65535; «too_large» = 15; reused = 16; duplicate = 14 }) sheet i tombstoned met s →
+    (sheet : List ℕ) (i : ℕ) (rules : OrdinalRules) (tombstoned met again : Bool) (span : Span) (s u v : State) →
+    rules ≡ record { greatest = 65535; «too_large» = 15; reused = 16; duplicate = 14 } → u ≡ pushOrdinal rules sheet i tombstoned met s →
     span ≡ spanIn (recordBytes sheet i) → v ≡ pushIf again (record { class = 13; severity = 0; span = span }) u →
     v ≡ pushFound (memberFound fieldScheme tombstoned met again (viewAt sheet i)) s
 unfolding ruleRow viewAt
-field-members sheet i tombstoned met again span s u v hu hs hv =
+field-members sheet i rules tombstoned met again span s u v which hu hs hv =
     member-found (record { greatest = 65535; «too_large» = 15; reused = 16; duplicate = 14 }) 2 3 4 (λ p. refl) (λ p. refl) (λ p. refl)
-    (5 ∷ []) sheet i tombstoned met again s u v hu
+    (5 ∷ []) sheet i tombstoned met again s u v (rw which at hu)
     (hv ∙ all-found 13 5 again span u (λ p. refl) ∙ ap (λ p. pushFound (foundAll (5 ∷ []) again p) u) hs)
+
+-- those of the ordinal of a field whose name is not met
+pub field-alone :
+    (sheet : List ℕ) (i : ℕ) (rules : OrdinalRules) (s u : State) → rules ≡ record { greatest = 65535; «too_large» = 15; reused = 16; duplicate = 14 } →
+    u ≡ pushOrdinal rules sheet i false false s → u ≡ pushFound (memberFound fieldScheme false false false (viewAt sheet i)) s
+unfolding ruleRow flatMap
+field-alone sheet i rules s u which hu =
+    member-found (record { greatest = 65535; «too_large» = 15; reused = 16; duplicate = 14 }) 2 3 4 (λ p. refl) (λ p. refl) (λ p. refl)
+    (5 ∷ []) sheet i false false false s u u (rw which at hu) (sym (found-none u))
 
 pub enum-members :
     (sheet : List ℕ) (i : ℕ) (tombstoned met : Bool) (s u : State) →

@@ -23,12 +23,20 @@ use Rattle.bodies.specs.Items.{fieldFound}
 use Rattle.bodies.proofs.Collecting.{values-other}
 use Rattle.bodies.proofs.Passing.{gone}
 use Rattle.bodies.proofs.Turns.{kind-is, turn-none}
+use Rattle.bodies.proofs.WholeRecords.{field-has, has-ordinal}
 use Rattle.bodies.proofs.FieldTurns.{fieldsLeft, field-inner, field-turn}
 use Rattle.bodies.proofs.FieldList.{fields-start}
 
 or-none : (x y : Bool) → (x || y) ≡ false → (x ≡ false) × (y ≡ false)
 or-none true y h = absurd (true≢false h)
 or-none false y h = (refl, h)
+
+-- of those, the first is a field
+single-kind : (k end e : ℕ) → (not (eqb k 11) || ltb end e) ≡ false → k ≡ 11
+single-kind k end e alone = eqb-true k 11 (not-false (eqb k 11) (or-none (not (eqb k 11)) (ltb end e) alone .0))
+
+pub single-has : (k end e kind : ℕ) → k ≡ kind → (not (eqb k 11) || ltb end e) ≡ false → Kind.hasOrdinal kind ≡ true
+single-has k end e kind read alone = has-ordinal k 11 kind read (single-kind k end e alone) field-has
 
 module _ (table sheet : List ℕ) (a e : ℕ) where
   abbrev tombs : List ℕ
@@ -69,7 +77,7 @@ module _ (table sheet : List ℕ) (a e : ℕ) where
   unfolding anyOf earlier
   fields-single s t k end last h hk alone ends ended ht =
       let none-other = or-none (not (eqb k 11)) (ltb end e) alone in
-      let test : is Kind.Field (viewAt sheet a) ≡ true = kind-is sheet a k 11 hk (eqb-true k 11 (not-false (eqb k 11) (none-other .0))) in
+      let test : is Kind.Field (viewAt sheet a) ≡ true = kind-is sheet a k 11 hk (single-kind k end e alone) in
       let field : viewAt sheet a .kind ≡ 11 = eqb-true (viewAt sheet a .kind) 11 test in
       let same : end ≡ e = omega (arith, ends .1, ltb-false end e (none-other .1)) in
       let all : AllIn (inRun FieldItem) sheet (a + 1) e = rw same at (ends .3) in

@@ -1,7 +1,7 @@
 // The declaration that a sheet holds.
 ghost use mathlib.Core.Path.{_≡_};
 ghost use mathlib.Core.List.{List};
-ghost use Prim.Native.Nat.{ℕ, _/_, _≤_};
+ghost use Prim.Native.Nat.{ℕ, _*_, _/_, _≤_};
 ghost use Rattle.rules.specs.declared.answer.Counts.{Counts};
 ghost use lib.ListN.{length};
 ghost use lib.Dec.{leb};
@@ -30,7 +30,7 @@ fn check_body(
     a: usize,
     e: usize,
 ) -> Counts
-    requires { ⌜ (a ≤ e) × (e ≤ 1024) ⌝ }
+    requires { ⌜ (a ≤ e) × (e ≤ 1024) × (e * 32 ≤ length (now sheet)) ⌝ }
     ensures { λ r. ⌜ _≡_ {A = List ℕ × Counts} (now (list .exit), r) (pushFound (bodyViolations (contextBy (now (table .entry)) (now (sheet .entry))) sub (viewOf (now (sheet .entry)) a e)) (now (list .entry), counts)) ⌝ }
 {
     match sub {
@@ -50,7 +50,7 @@ fn check_records(
     counts: Counts,
     n: usize,
 ) -> Counts
-    requires { ⌜ n ≤ 1024 ⌝ }
+    requires { ⌜ (n ≤ 1024) × (n * 32 ≤ length (now sheet)) ⌝ }
     ensures { λ r. ⌜ _≡_ {A = List ℕ × Counts} (now (list .exit), r) (pushFound (violationsOf (contextBy (now (table .entry)) (now (sheet .entry))) (viewOf (now (sheet .entry)) 0 n)) (now (list .entry), counts)) ⌝ }
 {
     let head = run_end(sheet, Run::Front, 0, n);

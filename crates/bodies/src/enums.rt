@@ -1,7 +1,8 @@
 // An enum: rules 31 to 33.
 ghost use mathlib.Core.Path.{_≡_};
 ghost use mathlib.Core.List.{List, []};
-ghost use Prim.Native.Nat.{ℕ, _≤_};
+ghost use Prim.Native.Nat.{ℕ, _*_, _≤_};
+ghost use lib.ListN.{length};
 ghost use Rattle.rules.specs.declared.answer.Counts.{Counts};
 ghost use mathlib.Core.Bool.{false};
 ghost use lib.Dec.{ltb};
@@ -17,6 +18,8 @@ use crate::ordinal::check_ordinal;
 use crate::seen::Seen;
 use crate::seen::collect;
 use crate::seen::meet;
+use crate::whole::kind_at;
+use crate::whole::ordinal_at;
 use rules::Counts;
 use rules::Sheet;
 use rules::Violation;
@@ -53,7 +56,7 @@ fn check_variants(
     a: usize,
     e: usize,
 ) -> Counts
-    requires { ⌜ (a ≤ e) × (e ≤ 1024) ⌝ }
+    requires { ⌜ (a ≤ e) × (e ≤ 1024) × (e * 32 ≤ length (now sheet)) ⌝ }
     ensures { λ r. ⌜ _≡_ {A = List ℕ × Counts} (now (list .exit), r) (pushFound (listViolations (contextBy (now (table .entry)) (now (sheet .entry))) enumScheme (λ it. []) (bodyItems (viewOf (now (sheet .entry)) a e))) (now (list .entry), counts)) ⌝ }
 {
     let mut seen = Seen {
@@ -73,11 +76,11 @@ fn check_variants(
     let mut counts = counts;
     let mut i = a;
     while i < e {
-        if sheet::kind(sheet, i) != kinds::VARIANT {
+        if kind_at(sheet, i) != kinds::VARIANT {
             i += 1;
             continue;
         }
-        let ordinal = sheet::value(sheet, i);
+        let ordinal = ordinal_at(sheet, i);
         let at = seen.len;
         let meeting = meet(
             sheet,
@@ -175,7 +178,7 @@ pub fn check_enum(
     a: usize,
     e: usize,
 ) -> Counts
-    requires { ⌜ (a ≤ e) × (e ≤ 1024) ⌝ }
+    requires { ⌜ (a ≤ e) × (e ≤ 1024) × (e * 32 ≤ length (now sheet)) ⌝ }
     ensures { λ r. ⌜ _≡_ {A = List ℕ × Counts} (now (list .exit), r) (pushFound (enumViolations (contextBy (now (table .entry)) (now (sheet .entry))) (viewOf (now (sheet .entry)) a e)) (now (list .entry), counts)) ⌝ }
 {
     let counts = check_variants(sheet, table, list, counts, a, e);

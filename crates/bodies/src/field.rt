@@ -2,7 +2,8 @@
 ghost use mathlib.Core.Path.{_≡_};
 ghost use mathlib.Core.Bool.{true};
 ghost use mathlib.Core.List.{List};
-ghost use Prim.Native.Nat.{ℕ, _+_, _<_, _≤_};
+ghost use Prim.Native.Nat.{ℕ, _+_, _*_, _<_, _≤_};
+ghost use lib.ListN.{length};
 ghost use Rattle.rules.specs.declared.answer.Counts.{Counts};
 ghost use Rattle.rules.specs.Annotations.{annotationsViolations};
 ghost use Rattle.rules.specs.Conditions.{conditionViolations};
@@ -15,6 +16,7 @@ use crate::runs::Run;
 use crate::runs::optionals_end;
 use crate::runs::run_end;
 use crate::runs::type_end;
+use crate::whole::kind_at;
 use rules::Counts;
 use sheet::kinds;
 
@@ -78,13 +80,14 @@ pub struct Parts {
 }
 
 // Whether the only part of the field from record `a` on is a type of one record, because record `e` or another item comes next.
-fn is_bare(sheet: &[u8], a: usize, e: usize) -> bool
+pub fn is_bare(sheet: &[u8], a: usize, e: usize) -> bool
+    requires { ⌜ e * 32 ≤ length (now sheet) ⌝ }
     ensures { λ r. ⌜ (r ≡ true → Bare (now (sheet .entry)) a e) ⌝ }
 {
     if e <= a {
         return false;
     }
-    let kind = sheet::kind(sheet, a);
+    let kind = kind_at(sheet, a);
     if (kind < kinds::PRIMITIVE) | (kinds::NAMED < kind) {
         return false;
     }
@@ -92,23 +95,32 @@ fn is_bare(sheet: &[u8], a: usize, e: usize) -> bool
     if next == e {
         return true;
     }
-    let after = sheet::kind(sheet, next);
+    let after = kind_at(sheet, next);
     (kinds::FIELD <= after) & (after <= kinds::INVARIANT)
+}
+
+// Adds what is wrong with the type at record `a`, the only part of a field.
+pub fn check_bare(
+    sheet: &[u8],
+    table: &[u16; 5122],
+    list: &mut [u8],
+    counts: Counts,
+    a: usize,
+) -> Counts
+    requires { ⌜ Bare (now sheet) a (a + 1) × ((a + 1) * 32 ≤ length (now sheet)) ⌝ }
+    ensures { λ r. ⌜ _≡_ {A = List ℕ × Counts} (now (list .exit), r) (pushFound (fieldViolations (contextBy (now (table .entry)) (now (sheet .entry))) (viewOf (now (sheet .entry)) a (a + 1))) (now (list .entry), counts)) ⌝ }
+{
+    if kind_at(sheet, a) != kinds::NAMED {
+        return counts;
+    }
+    types::check_named(sheet, table, list, counts, a)
 }
 
 // The parts of the field whose first stands at record `a`, if there is one, before record `e`.
 pub fn field_parts(sheet: &[u8], a: usize, e: usize) -> Parts
-    requires { ⌜ a ≤ e ⌝ }
+    requires { ⌜ (a ≤ e) × (e * 32 ≤ length (now sheet)) ⌝ }
     ensures { λ r. ⌜ (EndsAt (inRun FieldItem) (now (sheet .entry)) a e (r .end) × (r .end ≤ e) × (a ≤ e → a ≤ r .end) × AllIn (inRun FieldItem) (now (sheet .entry)) a (r .end)) × PartsAt (now (sheet .entry)) a r ⌝ }
 {
-    if is_bare(sheet, a, e) {
-        return Parts {
-            type_start: a,
-            behind: a,
-            type_end: a + 1,
-            end: a + 1,
-        };
-    }
     let type_start = run_end(sheet, Run::Annotations, a, e);
     let behind = optionals_end(sheet, type_start, e);
     let type_end = type_end(sheet, behind, e);

@@ -11,5 +11,6 @@ mod ordinal;
 mod runs;
 mod seen;
 mod unions;
+mod whole;
 
 pub use declaration::check_declaration;

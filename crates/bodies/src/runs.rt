@@ -1,7 +1,7 @@
 // Where a run of records ends.
 ghost use mathlib.Core.Path.{_≡_};
 ghost use mathlib.Core.Bool.{true};
-ghost use Prim.Native.Nat.{_+_, _*_, _≤_, _<_};
+ghost use Prim.Native.Nat.{_+_, _*_, _≤_};
 ghost use lib.ListN.{length};
 ghost use Rattle.names.specs.View.{viewAt};
 ghost use Rattle.rules.specs.Kind;
@@ -9,6 +9,7 @@ ghost use Rattle.rules.specs.Record.{is};
 ghost use Rattle.rules.specs.Bodies.{inType};
 ghost use Rattle.bodies.specs.declared.runs.Run.the-variants.{Optionals};
 ghost use Rattle.bodies.specs.Runs.{inRun, EndsAt, AllIn};
+use crate::whole::kind_at;
 use rules::Sheet;
 use sheet::kinds;
 
@@ -24,11 +25,12 @@ pub enum Run {
     Item,
 }
 
-// Whether record `i` is one of the run.
+// Whether record `i`, which is whole, is one of the run.
 fn is_in(sheet: &[u8], run: Run, i: usize) -> bool
+    requires { ⌜ (i + 1) * 32 ≤ length (now sheet) ⌝ }
     ensures { λ r. ⌜ r ≡ inRun run (viewAt (now (sheet .entry)) i) ⌝ }
 {
-    let kind = sheet::kind(sheet, i);
+    let kind = kind_at(sheet, i);
     match run {
         Run::Front => kind != kinds::HEAD,
         Run::Annotations => (kinds::ANNOTATION <= kind) & (kind <= kinds::ARGUMENT),
@@ -40,8 +42,9 @@ fn is_in(sheet: &[u8], run: Run, i: usize) -> bool
     }
 }
 
-// The first record from `a` up to `e` that is not of the run.
+// The first record from `a` up to `e` that is not of the run. The records up to `e` are whole, here and below.
 pub fn run_end(sheet: &[u8], run: Run, a: usize, e: usize) -> usize
+    requires { ⌜ e * 32 ≤ length (now sheet) ⌝ }
     ensures { λ r. ⌜ EndsAt (inRun run) (now (sheet .entry)) a e r × (r ≤ e) × (a ≤ e → a ≤ r) × AllIn (inRun run) (now (sheet .entry)) a r ⌝ }
 {
     let mut i = a;
@@ -52,21 +55,6 @@ pub fn run_end(sheet: &[u8], run: Run, a: usize, e: usize) -> usize
         i += 1;
     }
     e
-}
-
-// How many of the records from `a` up to `e` are whole.
-fn whole_records(sheet: &[u8], a: usize, e: usize) -> usize
-    requires { ⌜ a ≤ e ⌝ }
-    ensures { λ r. ⌜ (a + r ≤ e) × (0 < r → (a + r) * 32 ≤ length (now (sheet .entry))) ⌝ }
-{
-    let whole = sheet.len() / Sheet::RECORD;
-    if whole <= a {
-        return 0;
-    }
-    if e < whole {
-        return e - a;
-    }
-    whole - a
 }
 
 // Whether the four records from `i` on are optionals, by the first byte of each.
@@ -92,10 +80,10 @@ fn are_optionals(sheet: &[u8], i: usize) -> bool
 
 // A record from `a` up to `e` before which all are optionals, found by fours.
 fn fours_end(sheet: &[u8], a: usize, e: usize) -> usize
-    requires { ⌜ a ≤ e ⌝ }
+    requires { ⌜ (a ≤ e) × (e * 32 ≤ length (now sheet)) ⌝ }
     ensures { λ r. ⌜ (a ≤ r) × (r ≤ e) × AllIn (is Kind.Optional) (now (sheet .entry)) a r ⌝ }
 {
-    let mut left = whole_records(sheet, a, e);
+    let mut left = e - a;
     let mut i = a;
     while 4 <= left {
         if !are_optionals(sheet, i) {
@@ -109,7 +97,7 @@ fn fours_end(sheet: &[u8], a: usize, e: usize) -> usize
 
 // The first record from `a` up to `e` that is no optional.
 pub fn optionals_end(sheet: &[u8], a: usize, e: usize) -> usize
-    requires { ⌜ a ≤ e ⌝ }
+    requires { ⌜ (a ≤ e) × (e * 32 ≤ length (now sheet)) ⌝ }
     ensures { λ r. ⌜ EndsAt (inRun Optionals) (now (sheet .entry)) a e r × (r ≤ e) × (a ≤ e → a ≤ r) × AllIn (inRun Optionals) (now (sheet .entry)) a r ⌝ }
 {
     if e <= a {
@@ -123,6 +111,7 @@ pub fn optionals_end(sheet: &[u8], a: usize, e: usize) -> usize
 
 // The first record from `a` up to `e` that is not of a field's type: types, and bit names among them.
 pub fn type_end(sheet: &[u8], a: usize, e: usize) -> usize
+    requires { ⌜ e * 32 ≤ length (now sheet) ⌝ }
     ensures { λ r. ⌜ EndsAt inType (now (sheet .entry)) a e r × (r ≤ e) × (a ≤ e → a ≤ r) × AllIn inType (now (sheet .entry)) a r ⌝ }
 {
     let mut i = a;

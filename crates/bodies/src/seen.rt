@@ -1,11 +1,12 @@
 // The ordinals already met in a list.
 ghost use mathlib.Core.Path.{_≡_};
-ghost use Prim.Native.Nat.{_-_, _%_, _≤_, _<_};
+ghost use Prim.Native.Nat.{_-_, _*_, _%_, _≤_, _<_};
 ghost use lib.ListN.{length};
 ghost use Rattle.rules.specs.Words.{member};
 ghost use Rattle.names.specs.View.{viewOf};
 ghost use Rattle.bodies.specs.Earlier.{valuesOf, valuesBefore};
 ghost use Rattle.bodies.specs.Seen.{latest, narrow, Marked, Kept, ToMeet, MetAt};
+use crate::whole::kind_at;
 use rules::Sheet;
 
 // The numbers already met, at most 1024, with their count. Marks lie beside them: where the mark of a number is 0, the number was not met. A number that
@@ -89,14 +90,14 @@ pub fn collect(
     a: usize,
     e: usize,
 ) -> usize
-    requires { ⌜ (length (now ordinals) ≡ 1024) × (length (now marks) ≡ 1021) × (a ≤ e) × (e ≤ 1024) ⌝ }
+    requires { ⌜ (length (now ordinals) ≡ 1024) × (length (now marks) ≡ 1021) × (a ≤ e) × (e ≤ 1024) × (e * 32 ≤ length (now sheet)) ⌝ }
     ensures { λ r. ⌜ (length (now (ordinals .exit)) ≡ 1024) × (length (now (marks .exit)) ≡ 1021) × (r ≤ e - a) × (latest (now (ordinals .exit)) 0 r ≡ narrow (valuesOf kind (viewOf (now (sheet .entry)) a e))) × Marked (now (ordinals .exit)) (now (marks .exit)) r ⌝ }
 {
     let mut len = 0;
     let mut i = e;
     while a < i {
         i -= 1;
-        if sheet::kind(sheet, i) != kind {
+        if kind_at(sheet, i) != kind {
             continue;
         }
         let ordinal = sheet::value(sheet, i);

@@ -1,7 +1,8 @@
 // A union: rules 35 and 36, and the fields of its variants.
 ghost use mathlib.Core.Path.{_≡_};
 ghost use mathlib.Core.List.{List};
-ghost use Prim.Native.Nat.{ℕ, _<_, _≤_};
+ghost use Prim.Native.Nat.{ℕ, _*_, _<_, _≤_};
+ghost use lib.ListN.{length};
 ghost use Rattle.rules.specs.declared.answer.Counts.{Counts};
 ghost use Rattle.rules.specs.Record.{valueIn, recordBytes};
 ghost use Rattle.rules.specs.Bodies.{fieldListViolations, unionViolations};
@@ -9,8 +10,11 @@ ghost use Rattle.names.specs.View.{viewOf, contextBy};
 ghost use Rattle.diagnostic.specs.Push.{pushFound};
 ghost use Rattle.annotations.specs.Slots.{Ready};
 ghost use Rattle.bodies.specs.Items.{variantFound};
-use crate::message::check_field_at;
+use crate::field::check_bare;
+use crate::field::is_bare;
 use crate::message::check_message_body;
+use crate::message::check_parts;
+use crate::message::field_rules;
 use crate::ordinal::OrdinalRules;
 use crate::ordinal::check_ordinal;
 use crate::runs::Run;
@@ -18,6 +22,8 @@ use crate::runs::run_end;
 use crate::seen::Seen;
 use crate::seen::collect;
 use crate::seen::meet;
+use crate::whole::kind_at;
+use crate::whole::ordinal_at;
 use rules::Counts;
 use rules::Sheet;
 use rules::Violation;
@@ -34,29 +40,23 @@ fn check_fields(
     a: usize,
     e: usize,
 ) -> Counts
-    requires { ⌜ (a ≤ e) × (e ≤ 1024) × Ready (now names) a ⌝ }
+    requires { ⌜ (a ≤ e) × (e ≤ 1024) × Ready (now names) a × (e * 32 ≤ length (now sheet)) ⌝ }
     ensures { λ r. ⌜ _≡_ {A = List ℕ × Counts} (now (list .exit), r) (pushFound (fieldListViolations (contextBy (now (table .entry)) (now (sheet .entry))) (viewOf (now (sheet .entry)) a e)) (now (list .entry), counts)) × Ready (now (names .exit)) e ⌝ }
 {
     if e <= a {
         return counts;
     }
     let end = run_end(sheet, Run::FieldItem, a + 1, e);
-    if (sheet::kind(sheet, a) != kinds::FIELD) | (end < e) {
+    if (kind_at(sheet, a) != kinds::FIELD) | (end < e) {
         return check_message_body(sheet, table, list, counts, names, a, e);
     }
-    let ordinal = sheet::value(sheet, a);
-    let passed = check_field_at(
-        sheet,
-        table,
-        list,
-        counts,
-        a,
-        e,
-        ordinal,
-        false,
-        false,
-        false,
-    );
+    let ordinal = ordinal_at(sheet, a);
+    let counts = check_ordinal(sheet, list, counts, a, ordinal, field_rules(), false, false);
+    let first = a + 1;
+    if is_bare(sheet, first, e) {
+        return check_bare(sheet, table, list, counts, first);
+    }
+    let passed = check_parts(sheet, table, list, counts, first, e);
     passed.counts
 }
 
@@ -73,7 +73,7 @@ fn check_variant(
     tombstoned: bool,
     met: bool,
 ) -> Counts
-    requires { ⌜ (i < end) × (end ≤ 1024) × Ready (now names) i × (ordinal ≡ valueIn (recordBytes (now sheet) i)) ⌝ }
+    requires { ⌜ (i < end) × (end ≤ 1024) × Ready (now names) i × (ordinal ≡ valueIn (recordBytes (now sheet) i)) × (end * 32 ≤ length (now sheet)) ⌝ }
     ensures { λ r. ⌜ _≡_ {A = List ℕ × Counts} (now (list .exit), r) (pushFound (variantFound (now (table .entry)) (now (sheet .entry)) i end tombstoned met) (now (list .entry), counts)) × Ready (now (names .exit)) end ⌝ }
 {
     let rules = OrdinalRules {
@@ -95,7 +95,7 @@ pub fn check_union(
     a: usize,
     e: usize,
 ) -> Counts
-    requires { ⌜ (a ≤ e) × (e ≤ 1024) ⌝ }
+    requires { ⌜ (a ≤ e) × (e ≤ 1024) × (e * 32 ≤ length (now sheet)) ⌝ }
     ensures { λ r. ⌜ _≡_ {A = List ℕ × Counts} (now (list .exit), r) (pushFound (unionViolations (contextBy (now (table .entry)) (now (sheet .entry))) (viewOf (now (sheet .entry)) a e)) (now (list .entry), counts)) ⌝ }
 {
     let mut seen = Seen {
@@ -116,11 +116,11 @@ pub fn check_union(
     let mut counts = counts;
     let mut i = a;
     while i < e {
-        if sheet::kind(sheet, i) != kinds::VARIANT {
+        if kind_at(sheet, i) != kinds::VARIANT {
             i += 1;
             continue;
         }
-        let ordinal = sheet::value(sheet, i);
+        let ordinal = ordinal_at(sheet, i);
         let at = seen.len;
         let meeting = meet(
             sheet,

@@ -6,19 +6,19 @@ use mathlib.Core.List.{List}
 use lib.Dec.{eqb}
 use borrow.Author.Tests.{ne-eqb}
 use Rattle.rules.specs.declared.span.Span.{Span}
-use Rattle.rules.specs.declared.violation.Violation.{Violation}
 use Rattle.rules.specs.Words.{within}
 use Rattle.rules.specs.Kind
 use Rattle.rules.specs.Sub
-use Rattle.rules.specs.Record.{recordBytes, kindIn, subIn, spanIn}
+use Rattle.rules.specs.Record.{recordBytes, kindIn, subIn}
 use Rattle.rules.specs.Context.{ValidationContext, chainEnd}
 use Rattle.rules.specs.Types.{isInvalidMapKey, keyViolations}
-use Rattle.rules.specs.Rule.{ruleRow, error, InvalidMapKey}
+use Rattle.rules.specs.Rule.{ruleRow, InvalidMapKey}
 use Rattle.diagnostic.specs.Push.{State, pushIf, pushFound}
 use Rattle.diagnostic.proofs.FoundPushes.{found-if, found-none}
 use Rattle.names.specs.View.{viewAt, viewOf, contextBy, declarationsOf}
 use Rattle.types.specs.Key.{isWithoutKey, isInvalidEnd}
 use Rattle.types.proofs.Views.{view-cons, view-none}
+use Rattle.types.proofs.Told.{errorAt}
 
 module _ (ctx : ValidationContext ℕ Span) (sheet : List ℕ) (i k : ℕ) (read : k ≡ kindIn (recordBytes sheet i)) where
   -- the end of a chain, by its kind
@@ -45,7 +45,7 @@ module _ (ctx : ValidationContext ℕ Span) (sheet : List ℕ) (a e : ℕ) (s : 
   no-key h = rw (view-none sheet a e h) (sym (found-none s))
 
   pub rule-8 :
-      (bad : Bool) (span : Span) (v : Violation) (t : State) → a < e → bad ≡ isInvalidMapKey ctx (viewAt sheet a) → span ≡ spanIn (recordBytes sheet a) →
-      v ≡ record { class = InvalidMapKey; severity = error; span = span } → t ≡ pushIf bad v s → t ≡ pushFound (keyViolations ctx (viewOf sheet a e)) s
+      (bad : Bool) (t : State) → a < e → bad ≡ isInvalidMapKey ctx (viewAt sheet a) → t ≡ pushIf bad (errorAt sheet a InvalidMapKey) s →
+      t ≡ pushFound (keyViolations ctx (viewOf sheet a e)) s
   unfolding viewAt ruleRow
-  rule-8 bad span v t h b read told push = rw (view-cons sheet a e h, push, told, read, b) (found-if 8 _ _ s)
+  rule-8 bad t h b push = rw (view-cons sheet a e h, push, b) (found-if 8 _ _ s)

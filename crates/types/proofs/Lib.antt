@@ -8,5 +8,6 @@ pub mod OwnKinds
 pub mod OwnRules
 pub mod Passed
 pub mod Stack
+pub mod Told
 pub mod Views
 pub mod Walk

@@ -6,28 +6,28 @@ use mathlib.Core.List.{List, append-nil}
 use lib.Dec.{eqb}
 use borrow.Author.Tests.{ne-eqb}
 use Rattle.rules.specs.declared.span.Span.{Span}
-use Rattle.rules.specs.declared.violation.Violation.{Violation}
 use Rattle.rules.specs.Words.{front}
 use Rattle.rules.specs.Kind
 use Rattle.rules.specs.Sub
 use Rattle.rules.specs.Record.{is, recordBytes, kindIn, spanIn, valueIn}
 use Rattle.rules.specs.Context.{ValidationContext, declaredAs, isKnownType}
 use Rattle.rules.specs.Types.{isValidGeometricElementType, bitNameViolations}
-use Rattle.rules.specs.Rule.{foundIf, ruleRow, error, UnknownType, ConfigTypeAsField, GeometricInvalidElementType, LimitZero}
+use Rattle.rules.specs.Rule.{foundIf, ruleRow, UnknownType, ConfigTypeAsField, GeometricInvalidElementType, LimitZero}
 use Rattle.diagnostic.specs.Push.{State, pushIf, pushFound}
 use Rattle.diagnostic.proofs.FoundPushes.{found-if, found-none, found-then}
 use Rattle.names.specs.View.{viewAt, viewOf, contextBy}
 use Rattle.types.specs.Own.{isKnownBy, elementFound, namedFound, contentFound}
 use Rattle.types.proofs.Views.{view-cons, view-none}
 use Rattle.types.proofs.Known.{known-by}
+use Rattle.types.proofs.Told.{errorAt}
 
 pub rules-6-7 :
-    (table sheet : List ℕ) (i : ℕ) (config known : Bool) (span : Span) (v w : Violation) (s t u : State) → span ≡ spanIn (recordBytes sheet i) →
-    config ≡ declaredAs (contextBy table sheet) Sub.Config i → v ≡ record { class = ConfigTypeAsField; severity = error; span = span } → t ≡ pushIf config v s →
-    known ≡ isKnownBy table i → w ≡ record { class = UnknownType; severity = error; span = span } → u ≡ pushIf (not known) w t →
+    (table sheet : List ℕ) (i : ℕ) (config known : Bool) (s t u : State) →
+    config ≡ declaredAs (contextBy table sheet) Sub.Config i → t ≡ pushIf config (errorAt sheet i ConfigTypeAsField) s →
+    known ≡ isKnownBy table i → u ≡ pushIf (not known) (errorAt sheet i UnknownType) t →
     u ≡ pushFound (namedFound (contextBy table sheet) (viewAt sheet i)) s
 unfolding viewAt ruleRow namedFound
-rules-6-7 table sheet i config known span v w s t u read c told push k told' push' =
+rules-6-7 table sheet i config known s t u c push k push' =
     let ctx = contextBy table sheet in
     let known' : known ≡ isKnownType ctx i = k ∙ known-by table sheet i in
     found-then
@@ -36,8 +36,8 @@ rules-6-7 table sheet i config known span v w s t u read c told push k told' pus
     s
     t
     u
-    (rw (push, told, read, c) (found-if 6 _ _ s))
-    (rw (push', told', read, known') (found-if 7 _ _ t))
+    (rw (push, c) (found-if 6 _ _ s))
+    (rw (push', known') (found-if 7 _ _ t))
 
 module _ (sheet : List ℕ) (a e : ℕ) (s : State) where
   pub no-element : e ≤ a → s ≡ pushFound (elementFound (viewOf sheet a e)) s
@@ -45,12 +45,11 @@ module _ (sheet : List ℕ) (a e : ℕ) (s : State) where
   no-element h = rw (view-none sheet a e h) (sym (found-none s))
 
   pub rule-10 :
-      (valid : Bool) (span : Span) (v : Violation) (t : State) → a < e → valid ≡ isValidGeometricElementType (viewOf sheet a e) →
-      span ≡ spanIn (recordBytes sheet a) → v ≡ record { class = GeometricInvalidElementType; severity = error; span = span } → t ≡ pushIf (not valid) v s →
+      (valid : Bool) (t : State) → a < e → valid ≡ isValidGeometricElementType (viewOf sheet a e) →
+      t ≡ pushIf (not valid) (errorAt sheet a GeometricInvalidElementType) s →
       t ≡ pushFound (elementFound (viewOf sheet a e)) s
   unfolding viewAt ruleRow elementFound
-  rule-10 valid span v t h b read told push =
-      rw (view-cons sheet a e h, push, told, read, rw (view-cons sheet a e h) at b) (found-if 10 _ _ s)
+  rule-10 valid t h b push = rw (view-cons sheet a e h, push, rw (view-cons sheet a e h) at b) (found-if 10 _ _ s)
 
 module _ (ctx : ValidationContext ℕ Span) (sheet : List ℕ) (i a e k : ℕ) (s : State) (kind : k ≡ kindIn (recordBytes sheet i)) where
   pub rules-11-12 :
@@ -61,11 +60,10 @@ module _ (ctx : ValidationContext ℕ Span) (sheet : List ℕ) (i a e k : ℕ) (
   rules-11-12 span t bits read push = rw (contentFound, ← kind, bits, ← read) push
 
   pub rule-9 :
-      (n : ℕ) (span : Span) (v : Violation) (t : State) → k ≡ Kind.FixedArray → n ≡ valueIn (recordBytes sheet i) → span ≡ spanIn (recordBytes sheet i) →
-      v ≡ record { class = LimitZero; severity = error; span = span } → t ≡ pushIf (eqb n 0) v s →
+      (n : ℕ) (t : State) → k ≡ Kind.FixedArray → n ≡ valueIn (recordBytes sheet i) → t ≡ pushIf (eqb n 0) (errorAt sheet i LimitZero) s →
       t ≡ pushFound (contentFound ctx (viewAt sheet i) (viewOf sheet a e)) s
   unfolding viewAt contentFound ruleRow
-  rule-9 n span v t array value read told push = rw (contentFound, ← kind, array, append-nil, push, told, read, value) (found-if 9 _ _ s)
+  rule-9 n t array value push = rw (contentFound, ← kind, array, append-nil, push, value) (found-if 9 _ _ s)
 
   pub no-content : (k ≡ Kind.BitsInline → ⊥) → (k ≡ Kind.FixedArray → ⊥) → s ≡ pushFound (contentFound ctx (viewAt sheet i) (viewOf sheet a e)) s
   unfolding viewAt contentFound

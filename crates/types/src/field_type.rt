@@ -5,6 +5,7 @@ ghost use Prim.Native.Nat.{ℕ, _+_, _<_, _≤_, _^_};
 ghost use lib.ListN.{length};
 ghost use Rattle.rules.specs.declared.answer.Counts.{Counts};
 ghost use Rattle.rules.specs.Kind;
+ghost use Rattle.rules.specs.Record.{recordBytes, kindIn};
 ghost use Rattle.rules.specs.Types.{typeViolations};
 ghost use Rattle.diagnostic.specs.Push.{pushFound};
 ghost use Rattle.names.specs.View.{viewAt, viewOf, contextBy};
@@ -20,11 +21,11 @@ pub struct Due {
     pub checked: usize,
 }
 
-// Whether record `i` is passed: a bit name, an optional, an array, or a fixed array that has elements.
-fn is_passed(sheet: &[u8], i: usize) -> bool
+// Whether record `i`, of that kind, is passed: a bit name, an optional, an array, or a fixed array that has elements.
+fn is_passed(sheet: &[u8], kind: u8, i: usize) -> bool
+    requires { ⌜ kind ≡ kindIn (recordBytes (now sheet) i) ⌝ }
     ensures { λ r. ⌜ r ≡ isPassed (viewAt (now (sheet .entry)) i) ⌝ }
 {
-    let kind = sheet::kind(sheet, i);
     if (kinds::OPTIONAL <= kind) & (kind <= kinds::ARRAY) {
         return true;
     }
@@ -76,20 +77,22 @@ fn due_after(due: Due, kind: u8) -> Due
     }
 }
 
-// Adds rules 6 to 12 at record `i`, if it is a type that is checked.
+// Adds rules 6 to 12 at record `i`, of that kind, if it is a type that is checked.
 fn check_due_type(
     sheet: &[u8],
     table: &[u16; 5122],
     list: &mut [u8],
     counts: Counts,
     due: Due,
+    kind: u8,
     i: usize,
     a: usize,
     e: usize,
 ) -> Counts
+    requires { ⌜ kind ≡ kindIn (recordBytes (now sheet) i) ⌝ }
     ensures { λ r. ⌜ _≡_ {A = List ℕ × Counts} (now (list .exit), r) (pushFound (turnFound (contextBy (now (table .entry)) (now (sheet .entry))) (stackOf due) (viewAt (now (sheet .entry)) i) (viewOf (now (sheet .entry)) a e)) (now (list .entry), counts)) ⌝ }
 {
-    if sheet::kind(sheet, i) < kinds::NAMED {
+    if kind < kinds::NAMED {
         return counts;
     }
     if 0 < due.skipped {
@@ -98,7 +101,7 @@ fn check_due_type(
     if due.checked == 0 {
         return counts;
     }
-    check_own_type(sheet, table, list, counts, i, a, e)
+    check_own_type(sheet, table, list, counts, kind, i, a, e)
 }
 
 // Adds rules 6 to 12 of the type from record `a` up to record `e`, type by type.
@@ -118,12 +121,12 @@ fn check_types(
     };
     let mut i = a;
     while i < e {
-        if is_passed(sheet, i) {
+        let kind = sheet::kind(sheet, i);
+        if is_passed(sheet, kind, i) {
             i += 1;
             continue;
         }
-        let kind = sheet::kind(sheet, i);
-        counts = check_due_type(sheet, table, list, counts, due, i, i + 1, e);
+        counts = check_due_type(sheet, table, list, counts, due, kind, i, i + 1, e);
         i += 1;
         // what is due after the last record is never asked, and might not fit
         if i == e {

@@ -10,6 +10,7 @@ ghost use Rattle.names.specs.View.{viewAt, viewOf, contextBy, declarationsOf};
 ghost use Rattle.types.specs.Key.{isWithoutKey, isInvalidEnd};
 use crate::declared::is_declared_as;
 use crate::declared::place_behind;
+use crate::errors::error_if;
 use crate::subs;
 use rules::Counts;
 use rules::Violation;
@@ -78,11 +79,5 @@ pub fn check_map_key_type(
     }
     // rule 8
     let bad = is_invalid_map_key(sheet, table, a);
-    let span = sheet::span(sheet, a);
-    diagnostic::push_if(
-        list,
-        counts,
-        bad,
-        Violation::error(span, Violation::InvalidMapKey),
-    )
+    error_if(sheet, list, counts, bad, a, Violation::InvalidMapKey)
 }

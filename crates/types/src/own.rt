@@ -3,12 +3,14 @@ ghost use mathlib.Core.Path.{_≡_};
 ghost use mathlib.Core.List.{List};
 ghost use Prim.Native.Nat.{ℕ};
 ghost use Rattle.rules.specs.declared.answer.Counts.{Counts};
+ghost use Rattle.rules.specs.Record.{recordBytes, kindIn};
 ghost use Rattle.rules.specs.Types.{ownTypeViolations};
 ghost use Rattle.diagnostic.specs.Push.{pushFound};
 ghost use Rattle.names.specs.View.{viewAt, viewOf, contextBy};
 ghost use Rattle.types.specs.Own.{isKnownBy, elementFound, namedFound, contentFound};
 use crate::bits::check_bits;
 use crate::declared::is_declared_as;
+use crate::errors::error_if;
 use crate::key::check_map_key_type;
 use crate::subs;
 use crate::valid::is_valid_geometric_element_type;
@@ -33,23 +35,12 @@ pub fn check_named(
 ) -> Counts
     ensures { λ r. ⌜ _≡_ {A = List ℕ × Counts} (now (list .exit), r) (pushFound (namedFound (contextBy (now (table .entry)) (now (sheet .entry))) (viewAt (now (sheet .entry)) i)) (now (list .entry), counts)) ⌝ }
 {
-    let span = sheet::span(sheet, i);
     // rule 6
     let config = is_declared_as(sheet, table, subs::CONFIG, i);
-    let counts = diagnostic::push_if(
-        list,
-        counts,
-        config,
-        Violation::error(span, Violation::ConfigTypeAsField),
-    );
+    let counts = error_if(sheet, list, counts, config, i, Violation::ConfigTypeAsField);
     // rule 7
     let known = is_known_type(table, i);
-    diagnostic::push_if(
-        list,
-        counts,
-        !known,
-        Violation::error(span, Violation::UnknownType),
-    )
+    error_if(sheet, list, counts, !known, i, Violation::UnknownType)
 }
 
 // Adds rule 10 at the element that the records from `a` up to `e` start with.
@@ -61,12 +52,13 @@ fn check_element(sheet: &[u8], list: &mut [u8], counts: Counts, a: usize, e: usi
     }
     // rule 10
     let valid = is_valid_geometric_element_type(sheet, a, e);
-    let span = sheet::span(sheet, a);
-    diagnostic::push_if(
+    error_if(
+        sheet,
         list,
         counts,
         !valid,
-        Violation::error(span, Violation::GeometricInvalidElementType),
+        a,
+        Violation::GeometricInvalidElementType,
     )
 }
 
@@ -76,43 +68,39 @@ fn check_content(
     table: &[u16; 5122],
     list: &mut [u8],
     counts: Counts,
+    kind: u8,
     i: usize,
     a: usize,
     e: usize,
 ) -> Counts
+    requires { ⌜ kind ≡ kindIn (recordBytes (now sheet) i) ⌝ }
     ensures { λ r. ⌜ _≡_ {A = List ℕ × Counts} (now (list .exit), r) (pushFound (contentFound (contextBy (now (table .entry)) (now (sheet .entry))) (viewAt (now (sheet .entry)) i) (viewOf (now (sheet .entry)) a e)) (now (list .entry), counts)) ⌝ }
 {
-    let kind = sheet::kind(sheet, i);
     if kind == kinds::BITS_INLINE {
         return check_bits(sheet, table, list, counts, sheet::span(sheet, i), a, e);
     }
     if kind == kinds::FIXED_ARRAY {
         // rule 9
         let empty = sheet::value(sheet, i) == 0;
-        let span = sheet::span(sheet, i);
-        return diagnostic::push_if(
-            list,
-            counts,
-            empty,
-            Violation::error(span, Violation::LimitZero),
-        );
+        return error_if(sheet, list, counts, empty, i, Violation::LimitZero);
     }
     counts
 }
 
-// Adds rules 6 to 12 at type `i` alone.
+// Adds rules 6 to 12 at type `i` alone, which has that kind.
 pub fn check_own_type(
     sheet: &[u8],
     table: &[u16; 5122],
     list: &mut [u8],
     counts: Counts,
+    kind: u8,
     i: usize,
     a: usize,
     e: usize,
 ) -> Counts
+    requires { ⌜ kind ≡ kindIn (recordBytes (now sheet) i) ⌝ }
     ensures { λ r. ⌜ _≡_ {A = List ℕ × Counts} (now (list .exit), r) (pushFound (ownTypeViolations (contextBy (now (table .entry)) (now (sheet .entry))) (viewAt (now (sheet .entry)) i) (viewOf (now (sheet .entry)) a e)) (now (list .entry), counts)) ⌝ }
 {
-    let kind = sheet::kind(sheet, i);
     if kind == kinds::NAMED {
         return check_named(sheet, table, list, counts, i);
     }
@@ -122,5 +110,5 @@ pub fn check_own_type(
     if (kinds::VEC2 <= kind) & (kind <= kinds::MAT4) {
         return check_element(sheet, list, counts, a, e);
     }
-    check_content(sheet, table, list, counts, i, a, e)
+    check_content(sheet, table, list, counts, kind, i, a, e)
 }

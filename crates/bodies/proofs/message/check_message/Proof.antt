@@ -8,6 +8,6 @@ pub check-message-spec : {M : Type 1} → statement M
 check-message-spec =
     tie.close
     (tie.spec
-    (λ c κs. (search needs, search needs, ready-new _))
+    (λ c κs. (search needs, search needs, ready-new _, search needs))
     (λ c. search needs)
     (λ c. search needs))

@@ -1,6 +1,5 @@
--- The records passed so far are optionals, and those left are whole.
-use Prim.Native.Nat.{_+_, _*_, _<_, _≤_}
-use lib.ListN.{length}
+-- The records passed so far are optionals.
+use Prim.Native.Nat.{_+_, _≤_}
 use native.Mathlib.Omega.{arith}
 use borrow.Author.Needs.{needs}
 use borrow.Author.Tests.{not-false}
@@ -13,7 +12,7 @@ use Rattle.bodies.proofs.runs.fours_end.Statement.{statement}
 use Rattle.bodies.proofs.runs.fours_end.Tie as tie
 
 abbrev Inv-loop : tie.InvT-loop
-Inv-loop sheet a e left₀ i₀ left i = (a ≤ i) × (i + left ≤ e) × (0 < left → (i + left) * 32 ≤ length sheet) × AllIn (is Kind.Optional) sheet a i
+Inv-loop sheet a e left₀ i₀ left i = (a ≤ i) × (i + left ≤ e) × AllIn (is Kind.Optional) sheet a i
 
 abbrev μ-loop : tie.MeasureT-loop
 μ-loop sheet a e left₀ i₀ left i = left
@@ -26,14 +25,13 @@ fours-end-spec =
     (tie.spec
     Inv-loop
     μ-loop
-    (λ c κs. search needs)
+    (λ c. search needs)
     (λ c. search laws)
-    (λ c κs. let fits = c .before .loop .inv .2 (omega arith) in omega arith)
+    (λ c κs. search needs)
     (λ c. search laws)
     (λ c. search needs)
     (λ c. search needs)
     (λ c.
     let inv = c .before .before .before .loop .inv in
-    let fits = inv .2 (omega arith) in
-    (omega arith, omega arith, λ h. omega arith, all-on _ _ _ _ _ (inv .3) (c .before .are-optionals .ensures (not-false _ (c .if1 .left)))))
+    (omega arith, omega arith, all-on _ _ _ _ _ (inv .2) (c .before .are-optionals .ensures (not-false _ (c .if1 .left)))))
     (λ c. search needs))

@@ -9,7 +9,7 @@ pub optionals-end-spec : {M : Type 1} → statement M
 optionals-end-spec =
     tie.close
     (tie.spec
-    (λ c. passed-out _ _ _ _ _ (none-passed _ _ _ _) (c .before .before .pre) (λ lt. absurd (omega arith)))
+    (λ c. passed-out _ _ _ _ _ (none-passed _ _ _ _) (c .before .before .pre .0) (λ lt. absurd (omega arith)))
     (λ c κs. search needs)
     (λ c. passed-end _ _ _ _ _ (none-passed _ _ _ _) _ (c .before .before .if1 .left) (c .before .is-in .ensures) (c .if2 .taken))
     (λ c κs. search needs)

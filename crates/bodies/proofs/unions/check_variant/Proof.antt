@@ -11,6 +11,6 @@ check-variant-spec =
     (tie.spec
     (λ c κs. search needs)
     (λ c. search needs)
-    (λ c κs. (search needs, search needs, ready-later _ _ _ (c .before .before .before .before .before .before .before .before .pre .2) (search needs)))
+    (λ c κs. (search needs, search needs, ready-later _ _ _ (c .before .before .before .before .before .before .before .before .pre .2) (search needs), search needs))
     (λ c. search needs)
     (λ c. (search variant-found, search needs)))

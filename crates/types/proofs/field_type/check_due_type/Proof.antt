@@ -10,7 +10,6 @@ pub check-due-type-spec : {M : Type 1} → statement M
 check-due-type-spec =
     tie.close
     (tie.spec
-    (λ c κs. search needs)
     (λ c. search laws)
     (λ c. search laws)
     (λ c. search laws)

@@ -10,7 +10,6 @@ pub is-passed-spec : {M : Type 1} → statement M
 is-passed-spec =
     tie.close
     (tie.spec
-    (λ c κs. search needs)
     (λ c. search laws)
     (λ c κs. search needs)
     (λ c. search laws)

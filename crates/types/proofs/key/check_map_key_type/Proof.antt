@@ -11,7 +11,5 @@ check-map-key-type-spec =
     (λ c. search no-key)
     (λ c κs. search needs)
     (λ c κs. search needs)
-    (λ c κs. search needs)
-    (λ c κs. search needs)
     (λ c. search needs)
     (λ c. search rule-8))

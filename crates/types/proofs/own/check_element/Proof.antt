@@ -13,7 +13,5 @@ check-element-spec =
     (λ c. search laws)
     (λ c κs. search needs)
     (λ c κs. search needs)
-    (λ c κs. search needs)
-    (λ c κs. search needs)
     (λ c. search laws)
     (λ c. search laws))

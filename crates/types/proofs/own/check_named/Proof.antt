@@ -14,8 +14,5 @@ check-named-spec =
     (λ c κs. search needs)
     (λ c κs. search needs)
     (λ c κs. search needs)
-    (λ c κs. search needs)
-    (λ c κs. search needs)
-    (λ c κs. search needs)
     (λ c. search laws)
     (λ c. search laws))

@@ -11,7 +11,6 @@ check-own-type-spec =
     tie.close
     (tie.spec
     (λ c κs. search needs)
-    (λ c κs. search needs)
     (λ c. search laws)
     (λ c. search laws)
     (λ c κs. search needs)
