@@ -3,51 +3,18 @@ use Prim.Native.Nat.{ℕ, zero, suc, _+_, _-_, _*_, _<_, _≤_}
 use native.Mathlib.Nat.{zero-add}
 use native.Mathlib.Decide.{decLt}
 use native.Mathlib.Omega.{arith}
-use mathlib.Core.Path.{_≡_, refl, sym, ap, _∙_}
+use mathlib.Core.Path.{_≡_, sym, _∙_}
 use mathlib.Core.List.{List, [], _∷_, _++_, append-assoc}
-use lib.ListN.{length, getD, replicate, length-append, length-take, length-replicate, getD-replicate, List·getD-append}
-use lib.Seq.{getD-take, getD-append-add}
+use lib.ListN.{length, getD, List·getD-append}
+use lib.Seq.{getD-append-add}
 use Rattle.rules.specs.declared.span.Span.{Span}
 use Rattle.rules.specs.Words.{numberIf, anyOf, select}
 use Rattle.rules.specs.Kind
 use Rattle.rules.specs.Record.{Rec, is}
-use Rattle.names.specs.NameTable.{numbered, column, isNamed, idIn, declarationIn, importIn, targetIn, codeOf, tableOf}
+use Rattle.names.specs.NameTable.{column, isNamed, idIn, declarationIn, importIn, targetIn, codeOf, tableOf}
 use Rattle.names.specs.View.{entryOf, wildcardOf, declarationsOf}
+use Rattle.names.proofs.Columns.{length-column, column-at, column-past}
 use Rattle.names.proofs.Entries.{entry-in, entry-out}
-
-module _ {A : Type 0} (f : ℕ → A → ℕ) where
-  length-numbered : (k : ℕ) (xs : List A) → length (numbered f k xs) ≡ length xs
-  unfolding numbered
-  length-numbered k [] = refl
-  length-numbered k (x ∷ xs) = ap suc (length-numbered (suc k) xs)
-
-  numbered-at : (k i : ℕ) (xs : List A) (d : A) → i < length xs → getD (numbered f k xs) i 0 ≡ f (k + i) (getD xs i d)
-  unfolding numbered
-  numbered-at k i [] d h = absurd (omega arith)
-  numbered-at k zero (x ∷ xs) d h = let e : k ≡ k + 0 = omega arith in ap (λ n. f n x) e
-  numbered-at k (suc i) (x ∷ xs) d h =
-      let e : suc k + i ≡ k + suc i = omega arith in numbered-at (suc k) i xs d (omega arith) ∙ ap (λ n. f n (getD xs i d)) e
-
-  length-column : (xs : List A) → length (column f xs) ≡ 1024
-  unfolding column
-  length-column xs = simp (length-take, length-append, length-replicate) (omega arith)
-
-  column-at : (xs : List A) (i : ℕ) (d : A) → i < length xs → length xs ≤ 1024 → getD (column f xs) i 0 ≡ f i (getD xs i d)
-  unfolding column
-  column-at xs i d h short =
-      getD-take 1024 (numbered f 0 xs ++ replicate 1024 0) i 0 (omega arith)
-      ∙ List·getD-append (numbered f 0 xs) (replicate 1024 0) 0 i (rw length-numbered h)
-      ∙ numbered-at 0 i xs d h
-      ∙ ap (λ n. f n (getD xs i d)) (zero-add i)
-
-  column-past : (xs : List A) (i : ℕ) → length xs ≤ i → i < 1024 → getD (column f xs) i 0 ≡ 0
-  unfolding column
-  column-past xs i h short =
-      let split : length (numbered f 0 xs) + (i - length xs) ≡ i = rw length-numbered (omega arith) in
-      getD-take 1024 (numbered f 0 xs ++ replicate 1024 0) i 0 short
-      ∙ ap (λ n. getD (numbered f 0 xs ++ replicate 1024 0) n 0) (sym split)
-      ∙ getD-append-add (numbered f 0 xs) (replicate 1024 0) (i - length xs) 0
-      ∙ getD-replicate 1024 (i - length xs) 0 0 (omega arith)
 
 module _ {A : Type 0} where
   -- a column for each function, and numbers behind them
@@ -65,7 +32,7 @@ module _ {A : Type 0} where
   unfolding joined
   joined-at [] xs ns part i d b h short = absurd (omega arith)
   joined-at (f ∷ fs) xs ns zero i d b h short =
-      rw (zero-add i) (List·getD-append (column f xs) (joined fs xs ns) 0 i (rw length-column (omega arith)) ∙ column-at f xs i d h short)
+      rw (zero-add i) (List·getD-append (column f xs) (joined fs xs ns) 0 i (rw length-column (omega arith)) ∙ column-at f xs i d (omega arith) h)
   joined-at (f ∷ fs) xs ns (suc part) i d b h short =
       past f xs (joined fs xs ns) (part * 1024 + i) (suc part * 1024 + i) (omega arith) ∙ joined-at fs xs ns part i d (omega arith) h short
 
@@ -76,7 +43,7 @@ module _ {A : Type 0} where
   unfolding joined
   joined-out [] xs ns part i b h short = absurd (omega arith)
   joined-out (f ∷ fs) xs ns zero i b h short =
-      rw (zero-add i) (List·getD-append (column f xs) (joined fs xs ns) 0 i (rw length-column (omega arith)) ∙ column-past f xs i h short)
+      rw (zero-add i) (List·getD-append (column f xs) (joined fs xs ns) 0 i (rw length-column (omega arith)) ∙ column-past f xs i h)
   joined-out (f ∷ fs) xs ns (suc part) i b h short =
       past f xs (joined fs xs ns) (part * 1024 + i) (suc part * 1024 + i) (omega arith) ∙ joined-out fs xs ns part i (omega arith) h short
 
