@@ -4,11 +4,11 @@ use mathlib.Core.Path.{_≡_, refl, sym, _∙_}
 use mathlib.Core.Bool.{true}
 use mathlib.Core.List.{List}
 use native.Mathlib.Omega.{arith}
-use lib.ListN.{drop, getD}
-use lib.Seq.{getD-take, getD-drop}
+use lib.ListN.{getD}
 use Rattle.rules.specs.Words.{anyOf}
 use Rattle.rules.specs.Kind
 use Rattle.rules.specs.Record.{numberAt, recordBytes, kindIn, valueIn}
+use Rattle.rules.proofs.Records.{byte-of-record}
 use Rattle.sheet.proofs.Numbers.{word-read, long-read}
 use Rattle.sheet.proofs.Fields.{ordinal-value}
 
@@ -28,7 +28,7 @@ module _ (sheet : List ℕ) (i : ℕ) where
   record-byte : (at place : ℕ) → at < 32 → place ≡ i * 32 + at → getD (recordBytes sheet i) at 0 ≡ getD sheet place 0
   record-byte at place h same =
       let order : 32 * i + at ≡ place = omega arith in
-      getD-take 32 (drop (32 * i) sheet) at 0 h ∙ getD-drop (32 * i) sheet at 0 ∙ rw order
+      byte-of-record at i sheet 0 h ∙ rw order
 
   -- a record's kind is its first byte
   pub first-byte : (place : ℕ) → place ≡ i * 32 → kindIn (recordBytes sheet i) ≡ getD sheet place 0
