@@ -1,4 +1,5 @@
 // Annotations: rules 13 to 22.
+#![tactic(auto)]
 mod annotation;
 mod combined;
 mod deprecated;

@@ -1,4 +1,5 @@
 // The five bodies: rules 1 to 5 and 31 to 38.
+#![tactic(auto)]
 mod declaration;
 mod enums;
 mod errors;

@@ -1,4 +1,5 @@
 // The conditions of a field: rules 23 to 30.
+#![tactic(auto)]
 mod expr;
 mod literals;
 mod node;

@@ -1,4 +1,5 @@
 // Writing the list of violations and counting them.
+#![tactic(auto)]
 mod encode;
 mod list;
 

@@ -1,4 +1,5 @@
 // The program: it reads a sheet and its names text, and prints what the check finds.
+#![tactic(auto)]
 mod files;
 mod text;
 

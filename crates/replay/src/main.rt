@@ -1,5 +1,6 @@
 // Reads the file `cases` of recorded answers, calls the check for each case with five list buffers, names the cases whose answer or list is
 // not the recorded one, and writes what the cases come to.
+#![tactic(auto)]
 mod input;
 mod output;
 mod tally;

@@ -1,4 +1,5 @@
 // The lines that the program prints of an answer and its list.
+#![tactic(auto)]
 mod answer;
 mod decode;
 mod lines;

@@ -200,9 +200,9 @@ module _ {M N P : Type 0} {g : M → N} {Good Worded Spelled : M → Type 0} {ct
       duplicate_annotations ctx (map g names) (map (map_item (renamed g)) anns) ≡ duplicate_annotations ctx' names anns
   unfolding duplicate_annotations
   duplicates-renamed hs every-nil = refl
-  duplicates-renamed hs (every-cons {x = a} h anns) =
+  duplicates-renamed {names = names} hs (every-cons {x = a} {xs = xs} h anns) =
       λ i. found_if 22 (not (word-renamed doc a h i) && met-renamed alike a.head.name h.good hs i) a.head.place
-      ++ duplicates-renamed (every-cons h.good hs) anns i
+      ++ duplicates-renamed {names = a.head.name ∷ names} (every-cons h.good hs) anns i
 
   -- an annotation or an argument, well named
   abbrev Annotated : Rec M P → Type 0

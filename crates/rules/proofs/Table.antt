@@ -91,12 +91,12 @@ case-holds c h = (
   same-list _ _ (and_right (same_values (answer c.sheet c.names) c.expected) _ h),
 )
 
-rows-hold : (cs : List Case) → table_test cs ≡ true → (c : Case) → Memᴰ c cs → Holds c
+rows-hold : (c : Case) (cs : List Case) → table_test cs ≡ true → Memᴰ c cs → Holds c
 unfolding table_test
-rows-hold cs h c (Memᴰ.head {x} e) = subst⁻¹ Holds e (case-holds x (and_left _ _ h))
-rows-hold cs h c (Memᴰ.tail {x} {xs} m) = rows-hold xs (and_right (case_test x) _ h) c m
+rows-hold c cs h (Memᴰ.head {x} e) = subst⁻¹ Holds e (case-holds x (and_left _ _ h))
+rows-hold c cs h (Memᴰ.tail {x} {xs} m) = rows-hold c xs (and_right (case_test x) _ h) m
 
 -- every row of the table holds
 pub table-holds : (c : Case) → Memᴰ c table → (answer c.sheet c.names ≡ c.expected) × (told c.sheet c.names ≡ c.list)
 unfolding Holds
-table-holds c m = rows-hold table table-passes c m
+table-holds c m = rows-hold c table table-passes m

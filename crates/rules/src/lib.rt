@@ -1,5 +1,7 @@
 // The types of the check: spans, sheets, violations and answers, with the numbers of document 01 as their constants.
 // What they mean is defined in `specs/`, and the theorems over those definitions stand in `proofs/`.
+#![tactic(auto)]
+
 mod answer;
 mod sheet;
 mod span;

@@ -1,4 +1,6 @@
 // Reading the records of a sheet: each field of record i, for a sheet of any length and any i. Past the end everything reads as 0.
+#![tactic(auto)]
+
 mod bytes;
 mod field_name;
 pub mod kinds;

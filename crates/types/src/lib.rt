@@ -1,4 +1,5 @@
 // The rules of a field's type.
+#![tactic(auto)]
 mod bits;
 mod declared;
 mod errors;

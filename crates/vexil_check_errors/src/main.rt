@@ -1,4 +1,5 @@
 // The program, run on a body with errors and a warning: the message of `data/body.vexil`, in whose text the spans lie.
+#![tactic(auto)]
 fn main() {
     program::run();
 }

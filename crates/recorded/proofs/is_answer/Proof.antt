@@ -4,8 +4,8 @@ use Rattle.recorded.proofs.Answers.{misplaced, accepted, unknown, listed, refuse
 use Rattle.recorded.proofs.is_answer.Statement.{statement}
 use Rattle.recorded.proofs.is_answer.Tie as tie
 
-pub is-answer-spec : {M : Type 1} → statement M
-is-answer-spec =
+pub is_answer_spec : {M : Type 1} → statement M
+is_answer_spec =
     tie.close
     (tie.spec
     (λ c. search (rules, misplaced))

@@ -3,5 +3,5 @@ use Rattle.recorded.proofs.Answers.{other, begun}
 use Rattle.recorded.proofs.is_magic.Statement.{statement}
 use Rattle.recorded.proofs.is_magic.Tie as tie
 
-pub is-magic-spec : {M : Type 1} → statement M
-is-magic-spec = tie.close (tie.spec (λ c. search other) (λ c. search begun))
+pub is_magic_spec : {M : Type 1} → statement M
+is_magic_spec = tie.close (tie.spec (λ c. search other) (λ c. search begun))

@@ -9,8 +9,8 @@ returns : tie.Need-returns
 unfolding number_of
 returns c = omega arith
 
-pub number-spec : {M : Type 1} → statement M
-number-spec =
+pub number_spec : {M : Type 1} → statement M
+number_spec =
     tie.close
     (tie.spec
     (λ c. search rules)

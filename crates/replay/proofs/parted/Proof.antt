@@ -4,8 +4,8 @@ use Rattle.replay.proofs.Part.{cut}
 use Rattle.replay.proofs.parted.Statement.{statement}
 use Rattle.replay.proofs.parted.Tie as tie
 
-pub parted-spec : {M : Type 1} → statement M
-parted-spec =
+pub parted_spec : {M : Type 1} → statement M
+parted_spec =
     tie.close
     (tie.spec
     (λ c κs. search rules)

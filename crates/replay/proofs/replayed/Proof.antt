@@ -10,8 +10,8 @@ invariant-loop fd count sheet₀ names₀ violations₀ list₀ t₀ left₀ she
 abbrev decreases-loop : tie.decreases-loop
 decreases-loop fd count sheet₀ names₀ violations₀ list₀ t₀ left₀ sheet names violations list t left = left
 
-pub replayed-spec : {M : Type 1} → statement M
-replayed-spec =
+pub replayed_spec : {M : Type 1} → statement M
+replayed_spec =
     tie.close
     (tie.spec
     invariant-loop
@@ -29,7 +29,7 @@ replayed-spec =
     (λ c. search rules)
     (λ c. search rules)
     (λ c. let read = c.before.before.before.before.before.before.before.before.before.before.before.before.before.before in
-    omega (arith, read.next-case, read.before.before.before.before.before.loop))
+    omega (arith, read.next_case, read.before.before.before.before.before.loop))
     (λ c κs. search rules)
     (λ c κs. search rules)
     (λ c. search rules)

@@ -7,8 +7,8 @@ use Rattle.validate.proofs.vexil_check.Tie as tie
 
 ruleset laws = (rules, told-answered)
 
-pub vexil-check-spec : {M : Type 1} → statement M
-vexil-check-spec =
+pub vexil_check_spec : {M : Type 1} → statement M
+vexil_check_spec =
     tie.close
     (tie.spec
     (λ c κs. search rules)

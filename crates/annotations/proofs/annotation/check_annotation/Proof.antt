@@ -4,8 +4,8 @@ use Rattle.annotations.proofs.OneAnnotation.{varint-found, zigzag-found, delta-f
 use Rattle.annotations.proofs.annotation.check_annotation.Statement.{statement}
 use Rattle.annotations.proofs.annotation.check_annotation.Tie as tie
 
-pub check-annotation-spec : {M : Type 1} → statement M
-check-annotation-spec =
+pub check_annotation_spec : {M : Type 1} → statement M
+check_annotation_spec =
     tie.close
     (tie.spec
     (λ c κs. search rules)

@@ -4,8 +4,8 @@ use Rattle.annotations.proofs.FirstWith.{combined-none, combined-found}
 use Rattle.annotations.proofs.combined.check_combined.Statement.{statement}
 use Rattle.annotations.proofs.combined.check_combined.Tie as tie
 
-pub check-combined-spec : {M : Type 1} → statement M
-check-combined-spec =
+pub check_combined_spec : {M : Type 1} → statement M
+check_combined_spec =
     tie.close
     (tie.spec
     (λ c κs. search rules)

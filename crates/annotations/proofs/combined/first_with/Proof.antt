@@ -13,8 +13,8 @@ invariant-loop sheet table word a e i₀ i = first_with table sheet word a e ≡
 abbrev decreases-loop : tie.decreases-loop
 decreases-loop sheet table word a e i₀ i = e - i
 
-pub first-with-spec : {M : Type 1} → statement M
-first-with-spec =
+pub first_with_spec : {M : Type 1} → statement M
+first_with_spec =
     tie.close
     (tie.spec
     invariant-loop

@@ -4,8 +4,8 @@ use Rattle.annotations.proofs.Reasons.{deprecated-with, deprecated-without}
 use Rattle.annotations.proofs.deprecated.check_deprecated_has_reason.Statement.{statement}
 use Rattle.annotations.proofs.deprecated.check_deprecated_has_reason.Tie as tie
 
-pub check-deprecated-has-reason-spec : {M : Type 1} → statement M
-check-deprecated-has-reason-spec =
+pub check_deprecated_has_reason_spec : {M : Type 1} → statement M
+check_deprecated_has_reason_spec =
     tie.close
     (tie.spec
     (λ c κs. search rules)

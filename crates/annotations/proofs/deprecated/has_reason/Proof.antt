@@ -15,8 +15,8 @@ invariant-loop sheet table i e j₀ j = has_reason (context_by table sheet) (ann
 abbrev decreases-loop : tie.decreases-loop
 decreases-loop sheet table i e j₀ j = e - j
 
-pub has-reason-spec : {M : Type 1} → statement M
-has-reason-spec =
+pub has_reason_spec : {M : Type 1} → statement M
+has_reason_spec =
     tie.close
     (tie.spec
     invariant-loop

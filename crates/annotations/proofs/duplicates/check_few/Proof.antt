@@ -24,8 +24,8 @@ decreases-loop sheet table list₀ a e counts₀ i₀ list counts i = e - i
 
 ruleset laws = (rules, duplicates-start, duplicates-turn, duplicates-end)
 
-pub check-few-spec : {M : Type 1} → statement M
-check-few-spec =
+pub check_few_spec : {M : Type 1} → statement M
+check_few_spec =
     tie.close
     (tie.spec
     invariant-loop

@@ -28,8 +28,8 @@ decreases-loop sheet table list₀ a e slots₀ counts₀ i₀ list slots counts
 
 ruleset laws = (rules, duplicates-start, duplicates-turn, duplicates-end)
 
-pub check-row-spec : {M : Type 1} → statement M
-check-row-spec =
+pub check_row_spec : {M : Type 1} → statement M
+check_row_spec =
     tie.close
     (tie.spec
     invariant-loop
@@ -41,6 +41,6 @@ check-row-spec =
     (λ c κs. search rules)
     (λ c. search rules)
     (λ c. search rules)
-    (λ c. (search rules, search rules, search rules, duplicates-turn _ _ _ _ _ _ _ _ _ _ _ c.before.before.before.before.before.before.before.before.loop-test.true c.before.before.before.before.before.before.before.before.before.loop.invariant.0 c.before.before.before.before.before.before.is-duplicate-in-row.ensures.0 c.before.before.before.before.before.span.ensures c.before.before.before.before.error.ensures c.before.before.push-if.ensures c.before.before.before.before.before.before.before.before.before.loop.invariant.3))
+    (λ c. (search rules, search rules, search rules, duplicates-turn _ _ _ _ _ _ _ _ _ _ _ c.before.before.before.before.before.before.before.before.loop-test.true c.before.before.before.before.before.before.before.before.before.loop.invariant.0 c.before.before.before.before.before.before.is_duplicate_in_row.ensures.0 c.before.before.before.before.before.span.ensures c.before.before.before.before.error.ensures c.before.before.push_if.ensures c.before.before.before.before.before.before.before.before.before.loop.invariant.3))
     (λ c. search rules)
     (λ c. search laws))

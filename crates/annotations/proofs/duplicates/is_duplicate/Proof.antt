@@ -6,8 +6,8 @@ use Rattle.annotations.proofs.duplicates.is_duplicate.Tie as tie
 
 ruleset laws = (rules, repeat-other, repeat-doc, repeat-found)
 
-pub is-duplicate-spec : {M : Type 1} → statement M
-is-duplicate-spec =
+pub is_duplicate_spec : {M : Type 1} → statement M
+is_duplicate_spec =
     tie.close
     (tie.spec
     (λ c κs. search rules)

@@ -8,8 +8,8 @@ use Rattle.annotations.proofs.duplicates.is_duplicate_in_row.Tie as tie
 
 ruleset laws = (rules, is-annotation, is-other, repeat-other, repeat-doc, repeat-found, slotted-other)
 
-pub is-duplicate-in-row-spec : {M : Type 1} → statement M
-is-duplicate-in-row-spec =
+pub is_duplicate_in_row_spec : {M : Type 1} → statement M
+is_duplicate_in_row_spec =
     tie.close
     (tie.spec
     (λ c κs. search rules)

@@ -19,8 +19,8 @@ decreases-loop sheet table a i id j₀ j = j - a
 
 ruleset laws = (rules, scan-found, scan-differs, scan-other, scan-none)
 
-pub is-repeated-spec : {M : Type 1} → statement M
-is-repeated-spec =
+pub is_repeated_spec : {M : Type 1} → statement M
+is_repeated_spec =
     tie.close
     (tie.spec
     invariant-loop

@@ -18,8 +18,8 @@ invariant-loop sheet table list₀ a e ta te counts₀ i₀ list counts i =
 abbrev decreases-loop : tie.decreases-loop
 decreases-loop sheet table list₀ a e ta te counts₀ i₀ list counts i = e - i
 
-pub check-each-spec : {M : Type 1} → statement M
-check-each-spec =
+pub check_each_spec : {M : Type 1} → statement M
+check_each_spec =
     tie.close
     (tie.spec
     invariant-loop

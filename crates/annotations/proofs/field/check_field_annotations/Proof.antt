@@ -4,8 +4,8 @@ use Rattle.annotations.proofs.Fields.{field_found}
 use Rattle.annotations.proofs.field.check_field_annotations.Statement.{statement}
 use Rattle.annotations.proofs.field.check_field_annotations.Tie as tie
 
-pub check-field-annotations-spec : {M : Type 1} → statement M
-check-field-annotations-spec =
+pub check_field_annotations_spec : {M : Type 1} → statement M
+check_field_annotations_spec =
     tie.close
     (tie.spec
     (λ c κs. search rules)

@@ -4,8 +4,8 @@ use Rattle.annotations.proofs.Fields.{record-other, record-found}
 use Rattle.annotations.proofs.field.check_record.Statement.{statement}
 use Rattle.annotations.proofs.field.check_record.Tie as tie
 
-pub check-record-spec : {M : Type 1} → statement M
-check-record-spec =
+pub check_record_spec : {M : Type 1} → statement M
+check_record_spec =
     tie.close
     (tie.spec
     (λ c κs. search rules)

@@ -4,8 +4,8 @@ use Rattle.annotations.proofs.Single.{single-combined}
 use Rattle.annotations.proofs.field.check_several_combined.Statement.{statement}
 use Rattle.annotations.proofs.field.check_several_combined.Tie as tie
 
-pub check-several-combined-spec : {M : Type 1} → statement M
-check-several-combined-spec =
+pub check_several_combined_spec : {M : Type 1} → statement M
+check_several_combined_spec =
     tie.close
     (tie.spec
     (λ c. single-combined _ _ _ _ _ (c.before.before.before.requires c.if1.true))

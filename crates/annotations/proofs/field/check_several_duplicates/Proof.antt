@@ -4,8 +4,8 @@ use Rattle.annotations.proofs.Single.{single-duplicates}
 use Rattle.annotations.proofs.field.check_several_duplicates.Statement.{statement}
 use Rattle.annotations.proofs.field.check_several_duplicates.Tie as tie
 
-pub check-several-duplicates-spec : {M : Type 1} → statement M
-check-several-duplicates-spec =
+pub check_several_duplicates_spec : {M : Type 1} → statement M
+check_several_duplicates_spec =
     tie.close
     (tie.spec
     (λ c. single-duplicates _ _ _ _ _ (c.before.before.before.requires c.if1.true))

@@ -15,8 +15,8 @@ decreases-loop sheet a e i₀ i = e - i
 
 ruleset laws = (rules, after_next, after-end, after-past)
 
-pub is-single-spec : {M : Type 1} → statement M
-is-single-spec =
+pub is_single_spec : {M : Type 1} → statement M
+is_single_spec =
     tie.close
     (tie.spec
     invariant-loop

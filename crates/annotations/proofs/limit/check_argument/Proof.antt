@@ -4,8 +4,8 @@ use Rattle.annotations.proofs.Limits.{limit-passed, limit-judged}
 use Rattle.annotations.proofs.limit.check_argument.Statement.{statement}
 use Rattle.annotations.proofs.limit.check_argument.Tie as tie
 
-pub check-argument-spec : {M : Type 1} → statement M
-check-argument-spec =
+pub check_argument_spec : {M : Type 1} → statement M
+check_argument_spec =
     tie.close
     (tie.spec
     (λ c κs. search rules)

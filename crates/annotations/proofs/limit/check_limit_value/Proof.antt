@@ -21,8 +21,8 @@ invariant-loop sheet table list₀ i e ta te counts₀ j₀ list counts j =
 abbrev decreases-loop : tie.decreases-loop
 decreases-loop sheet table list₀ i e ta te counts₀ j₀ list counts j = e - j
 
-pub check-limit-value-spec : {M : Type 1} → statement M
-check-limit-value-spec =
+pub check_limit_value_spec : {M : Type 1} → statement M
+check_limit_value_spec =
     tie.close
     (tie.spec
     invariant-loop
@@ -38,6 +38,6 @@ check-limit-value-spec =
     (λ c.
     let called = c.before.before in
     let turn = called.before.before in
-    (search rules, limits-turn _ _ _ _ _ _ _ _ _ _ turn.before.before.before.loop.invariant.1 turn.before.before.loop-test.true turn.before.kind.ensures _ turn.if1.false called.check-argument.ensures))
+    (search rules, limits-turn _ _ _ _ _ _ _ _ _ _ turn.before.before.before.loop.invariant.1 turn.before.before.loop-test.true turn.before.kind.ensures _ turn.if1.false called.check_argument.ensures))
     (λ c. search rules)
     (λ c. search limits-end))

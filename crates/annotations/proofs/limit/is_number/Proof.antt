@@ -4,5 +4,5 @@ use Rattle.annotations.proofs.Limits.{number_is}
 use Rattle.annotations.proofs.limit.is_number.Statement.{statement}
 use Rattle.annotations.proofs.limit.is_number.Tie as tie
 
-pub is-number-spec : {M : Type 1} → statement M
-is-number-spec = tie.close (tie.spec (λ c κs. search rules) (λ c κs. search rules) (λ c. search number_is))
+pub is_number_spec : {M : Type 1} → statement M
+is_number_spec = tie.close (tie.spec (λ c κs. search rules) (λ c κs. search rules) (λ c. search number_is))

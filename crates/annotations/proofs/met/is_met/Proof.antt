@@ -4,8 +4,8 @@ use Rattle.annotations.proofs.Slots.{slot-none, slot-found}
 use Rattle.annotations.proofs.met.is_met.Statement.{statement}
 use Rattle.annotations.proofs.met.is_met.Tie as tie
 
-pub is-met-spec : {M : Type 1} → statement M
-is-met-spec =
+pub is_met_spec : {M : Type 1} → statement M
+is_met_spec =
     tie.close
     (tie.spec
     (λ c κs. search rules)

@@ -4,8 +4,8 @@ use Rattle.annotations.proofs.Repeats.{slotted-meet}
 use Rattle.annotations.proofs.met.meet.Statement.{statement}
 use Rattle.annotations.proofs.met.meet.Tie as tie
 
-pub meet-spec : {M : Type 1} → statement M
-meet-spec =
+pub meet_spec : {M : Type 1} → statement M
+meet_spec =
     tie.close
     (tie.spec
     (λ c κs. search rules)
@@ -17,4 +17,4 @@ meet-spec =
     (λ c. search rules)
     (λ c.
     let start = c.before.before.before.before.before.before in
-    slotted-meet _ _ _ _ _ _ _ _ _ start.requires.0 start.requires.1 c.before.before.before.before.id.ensures c.before.before.is-met.ensures c.slot.ensures.0 c.before.short.ensures))
+    slotted-meet _ _ _ _ _ _ _ _ _ start.requires.0 start.requires.1 c.before.before.before.before.id.ensures c.before.before.is_met.ensures c.slot.ensures.0 c.before.short.ensures))

@@ -4,8 +4,8 @@ use Rattle.annotations.proofs.Views.{after-within, after-beyond}
 use Rattle.annotations.proofs.records.after.Statement.{statement}
 use Rattle.annotations.proofs.records.after.Tie as tie
 
-pub after-spec : {M : Type 1} → statement M
-after-spec =
+pub after_spec : {M : Type 1} → statement M
+after_spec =
     tie.close (tie.spec
     (λ c. search rules)
     (λ c. after-within _ _)

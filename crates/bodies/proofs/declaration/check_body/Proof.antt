@@ -6,8 +6,8 @@ use Rattle.bodies.proofs.declaration.check_body.Tie as tie
 
 ruleset laws = (rules, message-body, enum-body, flags-body, union-body, newtype-body)
 
-pub check-body-spec : {M : Type 1} → statement M
-check-body-spec =
+pub check_body_spec : {M : Type 1} → statement M
+check_body_spec =
     tie.close
     (tie.spec
     (λ c κs. search rules)

@@ -6,8 +6,8 @@ use Rattle.bodies.proofs.declaration.check_declaration.Tie as tie
 
 ruleset laws = (rules, too_long, not-long)
 
-pub check-declaration-spec : {M : Type 1} → statement M
-check-declaration-spec =
+pub check_declaration_spec : {M : Type 1} → statement M
+check_declaration_spec =
     tie.close (tie.spec
     (λ c. search laws)
     (λ c κs. search rules)

@@ -6,8 +6,8 @@ use Rattle.bodies.proofs.declaration.check_records.Tie as tie
 
 ruleset laws = (rules, no-head, at_head)
 
-pub check-records-spec : {M : Type 1} → statement M
-check-records-spec =
+pub check_records_spec : {M : Type 1} → statement M
+check_records_spec =
     tie.close
     (tie.spec
     (λ c κs. search rules)

@@ -4,9 +4,9 @@ use Rattle.bodies.proofs.Backings.{no_sub}
 use Rattle.bodies.proofs.enums.backing_max.Statement.{statement}
 use Rattle.bodies.proofs.enums.backing_max.Tie as tie
 
-pub backing-max-spec : {M : Type 1} → statement M
+pub backing_max_spec : {M : Type 1} → statement M
 unfolding look_up
-backing-max-spec =
+backing_max_spec =
     tie.close
     (tie.spec
     (λ c. rw c.match.keys1)

@@ -4,8 +4,8 @@ use Rattle.bodies.proofs.Backings.{no-backing, rule-33}
 use Rattle.bodies.proofs.enums.check_backing.Statement.{statement}
 use Rattle.bodies.proofs.enums.check_backing.Tie as tie
 
-pub check-backing-spec : {M : Type 1} → statement M
-check-backing-spec =
+pub check_backing_spec : {M : Type 1} → statement M
+check_backing_spec =
     tie.close
     (tie.spec
     (λ c κs. search rules)

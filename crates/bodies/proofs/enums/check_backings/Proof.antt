@@ -19,8 +19,8 @@ invariant-loop sheet list₀ a e counts₀ i₀ list counts i =
 abbrev decreases-loop : tie.decreases-loop
 decreases-loop sheet list₀ a e counts₀ i₀ list counts i = e - i
 
-pub check-backings-spec : {M : Type 1} → statement M
-check-backings-spec =
+pub check_backings_spec : {M : Type 1} → statement M
+check_backings_spec =
     tie.close
     (tie.spec
     invariant-loop

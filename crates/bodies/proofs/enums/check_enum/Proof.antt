@@ -4,5 +4,5 @@ use Rattle.bodies.proofs.Declarations.{enum-found}
 use Rattle.bodies.proofs.enums.check_enum.Statement.{statement}
 use Rattle.bodies.proofs.enums.check_enum.Tie as tie
 
-pub check-enum-spec : {M : Type 1} → statement M
-check-enum-spec = tie.close (tie.spec (λ c κs. search rules) (λ c κs. search rules) (λ c. search rules) (λ c. search enum-found))
+pub check_enum_spec : {M : Type 1} → statement M
+check_enum_spec = tie.close (tie.spec (λ c κs. search rules) (λ c κs. search rules) (λ c. search rules) (λ c. search enum-found))

@@ -4,5 +4,5 @@ use Rattle.bodies.proofs.Ordinals.{enum-members}
 use Rattle.bodies.proofs.enums.check_variant.Statement.{statement}
 use Rattle.bodies.proofs.enums.check_variant.Tie as tie
 
-pub check-variant-spec : {M : Type 1} → statement M
-check-variant-spec = tie.close (tie.spec (λ c κs. search rules) (λ c. search rules) (λ c. search enum-members))
+pub check_variant_spec : {M : Type 1} → statement M
+check_variant_spec = tie.close (tie.spec (λ c κs. search rules) (λ c. search rules) (λ c. search enum-members))

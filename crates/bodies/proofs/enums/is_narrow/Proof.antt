@@ -14,8 +14,8 @@ invariant-loop sheet a e max i₀ i = any_used (ltb max) (view_of sheet i e) ≡
 abbrev decreases-loop : tie.decreases-loop
 decreases-loop sheet a e max i₀ i = e - i
 
-pub is-narrow-spec : {M : Type 1} → statement M
-is-narrow-spec =
+pub is_narrow_spec : {M : Type 1} → statement M
+is_narrow_spec =
     tie.close
     (tie.spec
     invariant-loop

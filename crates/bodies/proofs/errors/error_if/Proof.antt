@@ -4,8 +4,8 @@ use Rattle.bodies.proofs.Ordinals.{error-pushed}
 use Rattle.bodies.proofs.errors.error_if.Statement.{statement}
 use Rattle.bodies.proofs.errors.error_if.Tie as tie
 
-pub error-if-spec : {M : Type 1} → statement M
-error-if-spec = tie.close (tie.spec
+pub error_if_spec : {M : Type 1} → statement M
+error_if_spec = tie.close (tie.spec
     (λ c κs. search rules)
     (λ c κs. search rules)
     (λ c. search rules)

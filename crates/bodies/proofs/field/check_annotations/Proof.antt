@@ -6,8 +6,8 @@ use Rattle.bodies.proofs.field.check_annotations.Tie as tie
 
 ruleset laws = (rules, no-annotations)
 
-pub check-annotations-spec : {M : Type 1} → statement M
-check-annotations-spec =
+pub check_annotations_spec : {M : Type 1} → statement M
+check_annotations_spec =
     tie.close
     (tie.spec
     (λ c. search laws)

@@ -6,8 +6,8 @@ use Rattle.bodies.proofs.field.check_bare.Tie as tie
 
 ruleset laws = (rules, bare-plain, bare-named)
 
-pub check-bare-spec : {M : Type 1} → statement M
-check-bare-spec =
+pub check_bare_spec : {M : Type 1} → statement M
+check_bare_spec =
     tie.close (tie.spec
     (λ c κs. search rules)
     (λ c. search laws)

@@ -6,8 +6,8 @@ use Rattle.bodies.proofs.field.check_condition.Tie as tie
 
 ruleset laws = (rules, no-condition, condition-found)
 
-pub check-condition-spec : {M : Type 1} → statement M
-check-condition-spec =
+pub check_condition_spec : {M : Type 1} → statement M
+check_condition_spec =
     tie.close
     (tie.spec
     (λ c. search laws)

@@ -4,8 +4,8 @@ use Rattle.bodies.proofs.FieldParts.{field-optionals, field_found}
 use Rattle.bodies.proofs.field.check_field.Statement.{statement}
 use Rattle.bodies.proofs.field.check_field.Tie as tie
 
-pub check-field-spec : {M : Type 1} → statement M
-check-field-spec =
+pub check_field_spec : {M : Type 1} → statement M
+check_field_spec =
     tie.close
     (tie.spec
     (λ c κs. search rules)

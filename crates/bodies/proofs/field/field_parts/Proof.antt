@@ -4,12 +4,12 @@ use Rattle.bodies.proofs.FieldEnds.{parts-end}
 use Rattle.bodies.proofs.field.field_parts.Statement.{statement}
 use Rattle.bodies.proofs.field.field_parts.Tie as tie
 
-pub field-parts-spec : {M : Type 1} → statement M
-field-parts-spec =
+pub field_parts_spec : {M : Type 1} → statement M
+field_parts_spec =
     tie.close
     (tie.spec
     (λ c κs. search rules)
     (λ c κs. search rules)
     (λ c κs. search rules)
     (λ c κs. search rules)
-    (λ c. parts-end _ _ _ _ c.before.before.before.before.before.requires.0 c.before.before.before.run-end.ensures c.before.before.optionals-end.ensures c.before.type-end.ensures c.run-end2.ensures))
+    (λ c. parts-end _ _ _ _ c.before.before.before.before.before.requires.0 c.before.before.before.run_end.ensures c.before.before.optionals_end.ensures c.before.type_end.ensures c.run-end2.ensures))

@@ -8,8 +8,8 @@ use Rattle.bodies.proofs.field.is_bare.Tie as tie
 
 ruleset laws = (rules, bare-last, bare-next)
 
-pub is-bare-spec : {M : Type 1} → statement M
-is-bare-spec =
+pub is_bare_spec : {M : Type 1} → statement M
+is_bare_spec =
     tie.close
     (tie.spec
     (λ c h. absurd (true≢false (sym h)))

@@ -4,8 +4,8 @@ use Rattle.bodies.proofs.Bits.{bit-told}
 use Rattle.bodies.proofs.flags.check_bit.Statement.{statement}
 use Rattle.bodies.proofs.flags.check_bit.Tie as tie
 
-pub check-bit-spec : {M : Type 1} → statement M
-check-bit-spec =
+pub check_bit_spec : {M : Type 1} → statement M
+check_bit_spec =
     tie.close
     (tie.spec
     (λ c κs. search rules)

@@ -19,8 +19,8 @@ invariant-loop sheet table list₀ a e counts₀ i₀ list counts i =
 abbrev decreases-loop : tie.decreases-loop
 decreases-loop sheet table list₀ a e counts₀ i₀ list counts i = e - i
 
-pub check-flags-spec : {M : Type 1} → statement M
-check-flags-spec =
+pub check_flags_spec : {M : Type 1} → statement M
+check_flags_spec =
     tie.close
     (tie.spec
     invariant-loop

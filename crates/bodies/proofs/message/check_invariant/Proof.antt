@@ -4,8 +4,8 @@ use Rattle.bodies.proofs.Ordinals.{invariant-found}
 use Rattle.bodies.proofs.message.check_invariant.Statement.{statement}
 use Rattle.bodies.proofs.message.check_invariant.Tie as tie
 
-pub check-invariant-spec : {M : Type 1} → statement M
-check-invariant-spec =
+pub check_invariant_spec : {M : Type 1} → statement M
+check_invariant_spec =
     tie.close (tie.spec
     (λ c κs. search rules)
     (λ c κs. search rules)

@@ -4,8 +4,8 @@ use Rattle.annotations.proofs.Slots.{slot-none, slot-found}
 use Rattle.bodies.proofs.met.has_name.Statement.{statement}
 use Rattle.bodies.proofs.met.has_name.Tie as tie
 
-pub has-name-spec : {M : Type 1} → statement M
-has-name-spec =
+pub has_name_spec : {M : Type 1} → statement M
+has_name_spec =
     tie.close
     (tie.spec
     (λ c κs. search rules)

@@ -17,9 +17,9 @@ invariant-loop sheet table kind a i id found₀ j₀ found j =
 abbrev decreases-loop : tie.decreases-loop
 decreases-loop sheet table kind a i id found₀ j₀ found j = i - j
 
-pub is-among-spec : {M : Type 1} → statement M
+pub is_among_spec : {M : Type 1} → statement M
 unfolding view_at
-is-among-spec =
+is_among_spec =
     tie.close
     (tie.spec
     invariant-loop

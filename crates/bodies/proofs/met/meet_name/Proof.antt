@@ -5,8 +5,8 @@ use Rattle.annotations.proofs.Slots.{slotted-added}
 use Rattle.bodies.proofs.met.meet_name.Statement.{statement}
 use Rattle.bodies.proofs.met.meet_name.Tie as tie
 
-pub meet-name-spec : {M : Type 1} → statement M
-meet-name-spec =
+pub meet_name_spec : {M : Type 1} → statement M
+meet_name_spec =
     tie.close
     (tie.spec
     (λ c κs. search rules)
@@ -18,4 +18,4 @@ meet-name-spec =
     (λ c. search rules)
     (λ c.
     let start = c.before.before.before.before in
-    (rw (sym start.id.ensures) c.before.before.has-name.ensures, slotted-added _ _ _ _ _ _ _ _ start.before.before.requires.1 start.id.ensures c.slot.ensures.0 c.before.short.ensures start.before.before.requires.0)))
+    (rw (sym start.id.ensures) c.before.before.has_name.ensures, slotted-added _ _ _ _ _ _ _ _ start.before.before.requires.1 start.id.ensures c.slot.ensures.0 c.before.short.ensures start.before.before.requires.0)))

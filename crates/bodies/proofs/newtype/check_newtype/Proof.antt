@@ -4,8 +4,8 @@ use Rattle.bodies.proofs.Newtypes.{no_inner, rules-37-38}
 use Rattle.bodies.proofs.newtype.check_newtype.Statement.{statement}
 use Rattle.bodies.proofs.newtype.check_newtype.Tie as tie
 
-pub check-newtype-spec : {M : Type 1} → statement M
-check-newtype-spec =
+pub check_newtype_spec : {M : Type 1} → statement M
+check_newtype_spec =
     tie.close
     (tie.spec
     (λ c. search no_inner)

@@ -6,8 +6,8 @@ use Rattle.bodies.proofs.ordinal.check_ordinal.Tie as tie
 
 ruleset laws = (rules, ordinal-fine)
 
-pub check-ordinal-spec : {M : Type 1} → statement M
-check-ordinal-spec =
+pub check_ordinal_spec : {M : Type 1} → statement M
+check_ordinal_spec =
     tie.close
     (tie.spec
     (λ c. search laws)

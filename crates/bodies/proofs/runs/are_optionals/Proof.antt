@@ -6,8 +6,8 @@ use Rattle.bodies.proofs.Fours.{four-read}
 use Rattle.bodies.proofs.runs.are_optionals.Statement.{statement}
 use Rattle.bodies.proofs.runs.are_optionals.Tie as tie
 
-pub are-optionals-spec : {M : Type 1} → statement M
-are-optionals-spec =
+pub are_optionals_spec : {M : Type 1} → statement M
+are_optionals_spec =
     tie.close
     (tie.spec
     (λ c. search rules)

@@ -19,8 +19,8 @@ decreases-loop sheet a e left₀ i₀ left i = left
 
 ruleset laws = (rules, fours-none)
 
-pub fours-end-spec : {M : Type 1} → statement M
-fours-end-spec =
+pub fours_end_spec : {M : Type 1} → statement M
+fours_end_spec =
     tie.close
     (tie.spec
     invariant-loop
@@ -33,5 +33,5 @@ fours-end-spec =
     (λ c. search rules)
     (λ c.
     let inv = c.before.before.before.loop.invariant in
-    (omega arith, omega arith, all-on _ _ _ _ _ inv.2 (c.before.are-optionals.ensures (not-false _ c.if1.false))))
+    (omega arith, omega arith, all-on _ _ _ _ _ inv.2 (c.before.are_optionals.ensures (not-false _ c.if1.false))))
     (λ c. search rules))

@@ -4,8 +4,8 @@ use Rattle.bodies.proofs.RunEnds.{in-front, in-annotations, in-optionals, in-typ
 use Rattle.bodies.proofs.runs.is_in.Statement.{statement}
 use Rattle.bodies.proofs.runs.is_in.Tie as tie
 
-pub is-in-spec : {M : Type 1} → statement M
-is-in-spec =
+pub is_in_spec : {M : Type 1} → statement M
+is_in_spec =
     tie.close
     (tie.spec
     (λ c κs. search rules)

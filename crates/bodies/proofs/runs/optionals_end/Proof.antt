@@ -5,13 +5,13 @@ use Rattle.bodies.proofs.RunEnds.{none_passed, passed-end, passed-out, run_on}
 use Rattle.bodies.proofs.runs.optionals_end.Statement.{statement}
 use Rattle.bodies.proofs.runs.optionals_end.Tie as tie
 
-pub optionals-end-spec : {M : Type 1} → statement M
-optionals-end-spec =
+pub optionals_end_spec : {M : Type 1} → statement M
+optionals_end_spec =
     tie.close
     (tie.spec
     (λ c. passed-out _ _ _ _ _ (none_passed _ _ _ _) c.before.before.requires.0 (λ lt. absurd (omega arith)))
     (λ c κs. search rules)
-    (λ c. passed-end _ _ _ _ _ (none_passed _ _ _ _) _ c.before.before.if1.false c.before.is-in.ensures c.if2.true)
+    (λ c. passed-end _ _ _ _ _ (none_passed _ _ _ _) _ c.before.before.if1.false c.before.is_in.ensures c.if2.true)
     (λ c κs. search rules)
     (λ c κs. search rules)
-    (λ c. run_on _ _ _ _ _ _ c.before.fours-end.ensures.0 c.before.fours-end.ensures.1 c.before.fours-end.ensures.2 c.run-end.ensures))
+    (λ c. run_on _ _ _ _ _ _ c.before.fours_end.ensures.0 c.before.fours_end.ensures.1 c.before.fours_end.ensures.2 c.run_end.ensures))

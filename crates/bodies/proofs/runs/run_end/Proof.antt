@@ -12,16 +12,16 @@ invariant-loop sheet run a e i₀ i = Passed (in_run run) sheet a e i
 abbrev decreases-loop : tie.decreases-loop
 decreases-loop sheet run a e i₀ i = e - i
 
-pub run-end-spec : {M : Type 1} → statement M
-run-end-spec =
+pub run_end_spec : {M : Type 1} → statement M
+run_end_spec =
     tie.close
     (tie.spec
     invariant-loop
     decreases-loop
     (λ c. search none_passed)
     (λ c κs. search (rules))
-    (λ c. passed-end _ _ _ _ _ c.before.before.before.loop.invariant _ c.before.before.loop-test.true c.before.is-in.ensures c.if1.true)
+    (λ c. passed-end _ _ _ _ _ c.before.before.before.loop.invariant _ c.before.before.loop-test.true c.before.is_in.ensures c.if1.true)
     (λ c. search rules)
     (λ c. search rules)
-    (λ c. passed-next _ _ _ _ _ c.before.before.before.loop.invariant _ c.before.before.loop-test.true c.before.is-in.ensures c.if1.false)
+    (λ c. passed-next _ _ _ _ _ c.before.before.before.loop.invariant _ c.before.before.loop-test.true c.before.is_in.ensures c.if1.false)
     (λ c. passed-all _ _ _ _ _ c.before.loop.invariant c.loop-test.false))

@@ -14,8 +14,8 @@ invariant-loop sheet a e i₀ i = Passed in_type sheet a e i
 abbrev decreases-loop : tie.decreases-loop
 decreases-loop sheet a e i₀ i = e - i
 
-pub type-end-spec : {M : Type 1} → statement M
-type-end-spec =
+pub type_end_spec : {M : Type 1} → statement M
+type_end_spec =
     tie.close
     (tie.spec
     invariant-loop
@@ -23,9 +23,9 @@ type-end-spec =
     (λ c. search none_passed)
     (λ c κs. search rules)
     (λ c κs. search rules)
-    (λ c. type-over _ _ _ _ _ _ c.before.before.before.before.loop.invariant c.before.before.before.loop-test.true c.before.before.run-end.ensures c.before.run-end2.ensures c.if1.true)
+    (λ c. type-over _ _ _ _ _ _ c.before.before.before.before.loop.invariant c.before.before.before.loop-test.true c.before.before.run_end.ensures c.before.run-end2.ensures c.if1.true)
     (λ c.
-    let less = type-less _ _ _ _ _ _ c.before.before.before.before.loop.invariant c.before.before.before.loop-test.true c.before.before.run-end.ensures c.before.run-end2.ensures c.if1.false in
+    let less = type-less _ _ _ _ _ _ c.before.before.before.before.loop.invariant c.before.before.before.loop-test.true c.before.before.run_end.ensures c.before.run-end2.ensures c.if1.false in
     omega (arith, less, c.before.before.before.loop-test.true))
-    (λ c. type-next _ _ _ _ _ _ c.before.before.before.before.loop.invariant c.before.before.before.loop-test.true c.before.before.run-end.ensures c.before.run-end2.ensures)
+    (λ c. type-next _ _ _ _ _ _ c.before.before.before.before.loop.invariant c.before.before.before.loop-test.true c.before.before.run_end.ensures c.before.run-end2.ensures)
     (λ c. passed-all _ _ _ _ _ c.before.loop.invariant c.loop-test.false))

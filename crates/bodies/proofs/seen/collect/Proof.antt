@@ -12,8 +12,8 @@ decreases-loop sheet ordinals₀ marks₀ kind a e len₀ i₀ ordinals marks le
 
 ruleset laws = (rules, collected-none, collected-other, collected-out, collected-room, collected-next)
 
-pub collect-spec : {M : Type 1} → statement M
-collect-spec =
+pub collect_spec : {M : Type 1} → statement M
+collect_spec =
     tie.close
     (tie.spec
     invariant-loop

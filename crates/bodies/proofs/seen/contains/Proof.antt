@@ -11,8 +11,8 @@ invariant-loop ordinals a e ordinal count window last found₀ i₀ found i = In
 abbrev decreases-loop : tie.decreases-loop
 decreases-loop ordinals a e ordinal count window last found₀ i₀ found i = window - i
 
-pub contains-spec : {M : Type 1} → statement M
-contains-spec =
+pub contains_spec : {M : Type 1} → statement M
+contains_spec =
     tie.close
     (tie.spec
     invariant-loop

@@ -11,8 +11,8 @@ invariant-loop sheet kind a e ordinal found₀ i₀ found i = Asked sheet kind a
 abbrev decreases-loop : tie.decreases-loop
 decreases-loop sheet kind a e ordinal found₀ i₀ found i = e - i
 
-pub is-among-spec : {M : Type 1} → statement M
-is-among-spec =
+pub is_among_spec : {M : Type 1} → statement M
+is_among_spec =
     tie.close
     (tie.spec
     invariant-loop

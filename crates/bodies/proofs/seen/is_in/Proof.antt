@@ -11,8 +11,8 @@ invariant-loop ordinals a e ordinal found₀ i₀ found i = AskedBefore ordinals
 abbrev decreases-loop : tie.decreases-loop
 decreases-loop ordinals a e ordinal found₀ i₀ found i = e - i
 
-pub is-in-spec : {M : Type 1} → statement M
-is-in-spec =
+pub is_in_spec : {M : Type 1} → statement M
+is_in_spec =
     tie.close
     (tie.spec
     invariant-loop

@@ -5,8 +5,8 @@ use Rattle.bodies.proofs.Passing.{met-room, met-asks, met-out, met-again, met-ne
 use Rattle.bodies.proofs.seen.meet.Statement.{statement}
 use Rattle.bodies.proofs.seen.meet.Tie as tie
 
-pub meet-spec : {M : Type 1} → statement M
-meet-spec =
+pub meet_spec : {M : Type 1} → statement M
+meet_spec =
     tie.close
     (tie.spec
     (λ c κs. met-asks _ _ _ _ _ _ _ _ _ _ _ c.before.before.before.requires)

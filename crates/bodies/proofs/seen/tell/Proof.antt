@@ -4,8 +4,8 @@ use Rattle.bodies.proofs.Passing.{kept-gone, kept-before}
 use Rattle.bodies.proofs.seen.tell.Statement.{statement}
 use Rattle.bodies.proofs.seen.tell.Tie as tie
 
-pub tell-spec : {M : Type 1} → statement M
-tell-spec =
+pub tell_spec : {M : Type 1} → statement M
+tell_spec =
     tie.close
     (tie.spec
     (λ c κs. search rules)

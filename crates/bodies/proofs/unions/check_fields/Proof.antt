@@ -10,8 +10,8 @@ use Rattle.bodies.proofs.FieldEnds.{bare-fits}
 use Rattle.bodies.proofs.unions.check_fields.Statement.{statement}
 use Rattle.bodies.proofs.unions.check_fields.Tie as tie
 
-pub check-fields-spec : {M : Type 1} → statement M
-check-fields-spec =
+pub check_fields_spec : {M : Type 1} → statement M
+check_fields_spec =
     tie.close
     (tie.spec
     (λ c. (fields-empty _ _ _ _ _ c.if1.true, ready-later _ _ _ c.before.before.before.requires.2 (search rules)))
@@ -26,15 +26,15 @@ check-fields-spec =
     (λ c κs. search rules)
     (λ c. search rules)
     (λ c κs. search rules)
-    (λ c κs. let bare = c.before.before.is-bare.ensures c.before.if3.true in (bare-alone _ _ _ bare, omega (arith, bare-fits _ _ _ bare, c.before.before.before.before.before.before.before.before.before.before.before.before.before.before.before.requires.3)))
+    (λ c κs. let bare = c.before.before.is_bare.ensures c.before.if3.true in (bare-alone _ _ _ bare, omega (arith, bare-fits _ _ _ bare, c.before.before.before.before.before.before.before.before.before.before.before.before.before.before.before.requires.3)))
     (λ c. search rules)
-    (λ c. let w = c.before.before.before.before.before.before.before.before in let bare = c.before.before.before.before.before.is-bare.ensures c.before.before.before.before.if3.true in (
-      fields-single _ _ _ _ _ _ _ _ _ w.before.before.before.before.before.before.before.if1.false w.before.before.before.before.before.kind_at.ensures w.before.before.before.before.if2.false w.before.before.before.before.before.before.run-end.ensures (bare-run _ _ _ bare).0 (item-found _ _ _ _ _ _ _ _ _ _ (field-alone _ _ _ _ _ w.before.field-rules.ensures w.check-ordinal.ensures) c.before.before.check-bare.ensures),
+    (λ c. let w = c.before.before.before.before.before.before.before.before in let bare = c.before.before.before.before.before.is_bare.ensures c.before.before.before.before.if3.true in (
+      fields-single _ _ _ _ _ _ _ _ _ w.before.before.before.before.before.before.before.if1.false w.before.before.before.before.before.kind_at.ensures w.before.before.before.before.if2.false w.before.before.before.before.before.before.run_end.ensures (bare-run _ _ _ bare).0 (item-found _ _ _ _ _ _ _ _ _ _ (field-alone _ _ _ _ _ w.before.field_rules.ensures w.check_ordinal.ensures) c.before.before.check_bare.ensures),
       ready-later _ _ _ w.before.before.before.before.before.before.before.before.before.before.requires.2 (search rules),
     ))
     (λ c κs. (search rules, c.before.before.before.before.before.before.before.before.before.before.before.before.before.before.before.requires.3))
     (λ c. search rules)
     (λ c. let w = c.before.before.before.before.before.before.before.before.before in (
-      fields-single _ _ _ _ _ _ _ _ _ w.before.before.before.before.before.before.before.if1.false w.before.before.before.before.before.kind_at.ensures w.before.before.before.before.if2.false w.before.before.before.before.before.before.run-end.ensures c.before.before.before.check-parts.ensures.1.0 (item-found _ _ _ _ _ _ _ _ _ _ (field-alone _ _ _ _ _ w.before.field-rules.ensures w.check-ordinal.ensures) c.before.before.before.check-parts.ensures.0),
+      fields-single _ _ _ _ _ _ _ _ _ w.before.before.before.before.before.before.before.if1.false w.before.before.before.before.before.kind_at.ensures w.before.before.before.before.if2.false w.before.before.before.before.before.before.run_end.ensures c.before.before.before.check_parts.ensures.1.0 (item-found _ _ _ _ _ _ _ _ _ _ (field-alone _ _ _ _ _ w.before.field_rules.ensures w.check_ordinal.ensures) c.before.before.before.check_parts.ensures.0),
       ready-later _ _ _ w.before.before.before.before.before.before.before.before.before.before.requires.2 (search rules),
     )))

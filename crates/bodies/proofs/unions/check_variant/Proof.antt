@@ -5,8 +5,8 @@ use Rattle.bodies.proofs.Variants.{variant_found_lem}
 use Rattle.bodies.proofs.unions.check_variant.Statement.{statement}
 use Rattle.bodies.proofs.unions.check_variant.Tie as tie
 
-pub check-variant-spec : {M : Type 1} → statement M
-check-variant-spec =
+pub check_variant_spec : {M : Type 1} → statement M
+check_variant_spec =
     tie.close
     (tie.spec
     (λ c κs. search rules)

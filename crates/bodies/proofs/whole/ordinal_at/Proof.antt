@@ -4,8 +4,8 @@ use Rattle.bodies.proofs.WholeRecords.{ordinal-whole}
 use Rattle.bodies.proofs.whole.ordinal_at.Statement.{statement}
 use Rattle.bodies.proofs.whole.ordinal_at.Tie as tie
 
-pub ordinal-at-spec : {M : Type 1} → statement M
-ordinal-at-spec =
+pub ordinal_at_spec : {M : Type 1} → statement M
+ordinal_at_spec =
     tie.close
     (tie.spec
     (λ c κs. search rules)

@@ -4,8 +4,8 @@ use Rattle.bodies.proofs.WholeRecords.{word-here}
 use Rattle.bodies.proofs.whole.word_at.Statement.{statement}
 use Rattle.bodies.proofs.whole.word_at.Tie as tie
 
-pub word-at-spec : {M : Type 1} → statement M
-word-at-spec =
+pub word_at_spec : {M : Type 1} → statement M
+word_at_spec =
     tie.close
     (tie.spec
     (λ c. search rules)

@@ -20,8 +20,8 @@ invariant-loop sheet table list₀ a e ta te literals collection counts₀ i₀ 
 abbrev decreases-loop : tie.decreases-loop
 decreases-loop sheet table list₀ a e ta te literals collection counts₀ i₀ list counts i = e - i
 
-pub validate-where-expr-spec : {M : Type 1} → statement M
-validate-where-expr-spec =
+pub validate_where_expr_spec : {M : Type 1} → statement M
+validate_where_expr_spec =
     tie.close
     (tie.spec
     invariant-loop
@@ -35,8 +35,8 @@ validate-where-expr-spec =
     (λ c. (
       search rules,
       condition-next _ _ _ _ _ _ _ _ _ _ c.before.before.before.before.loop-test.true
-          c.before.before.before.before.before.before.before.literals-of.ensures
-          c.before.before.before.before.before.before.is-collection-type.ensures c.before.before.validate-node.ensures
+          c.before.before.before.before.before.before.before.literals_of.ensures
+          c.before.before.before.before.before.before.is_collection_type.ensures c.before.before.validate_node.ensures
           c.before.before.before.before.before.loop.invariant.1,
     ))
     (λ c. search rules)

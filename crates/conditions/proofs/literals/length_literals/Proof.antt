@@ -3,5 +3,5 @@ use mathlib.Core.Path.{refl}
 use Rattle.conditions.proofs.literals.length_literals.Statement.{statement}
 use Rattle.conditions.proofs.literals.length_literals.Tie as tie
 
-pub length-literals-spec : {M : Type 1} → statement M
-length-literals-spec = tie.close (tie.spec (λ c. refl))
+pub length_literals_spec : {M : Type 1} → statement M
+length_literals_spec = tie.close (tie.spec (λ c. refl))

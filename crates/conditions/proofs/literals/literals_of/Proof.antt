@@ -4,8 +4,8 @@ use Rattle.conditions.proofs.FieldLiterals.{no-literals, first-literals}
 use Rattle.conditions.proofs.literals.literals_of.Statement.{statement}
 use Rattle.conditions.proofs.literals.literals_of.Tie as tie
 
-pub literals-of-spec : {M : Type 1} → statement M
-literals-of-spec =
+pub literals_of_spec : {M : Type 1} → statement M
+literals_of_spec =
     tie.close
     (tie.spec
     (λ c κs. search rules)

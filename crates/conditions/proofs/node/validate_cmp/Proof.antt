@@ -4,8 +4,8 @@ use Rattle.conditions.proofs.NodeParts.{cmp-found}
 use Rattle.conditions.proofs.node.validate_cmp.Statement.{statement}
 use Rattle.conditions.proofs.node.validate_cmp.Tie as tie
 
-pub validate-cmp-spec : {M : Type 1} → statement M
-validate-cmp-spec =
+pub validate_cmp_spec : {M : Type 1} → statement M
+validate_cmp_spec =
     tie.close
     (tie.spec
     (λ c κs. search rules)

@@ -4,8 +4,8 @@ use Rattle.conditions.proofs.NodeParts.{len-found}
 use Rattle.conditions.proofs.node.validate_len.Statement.{statement}
 use Rattle.conditions.proofs.node.validate_len.Tie as tie
 
-pub validate-len-spec : {M : Type 1} → statement M
-validate-len-spec =
+pub validate_len_spec : {M : Type 1} → statement M
+validate_len_spec =
     tie.close
     (tie.spec
     (λ c κs. search rules)

@@ -4,8 +4,8 @@ use Rattle.conditions.proofs.NodeKinds.{at-cmp, at-range, at-len-cmp, at-len-ran
 use Rattle.conditions.proofs.node.validate_node.Statement.{statement}
 use Rattle.conditions.proofs.node.validate_node.Tie as tie
 
-pub validate-node-spec : {M : Type 1} → statement M
-validate-node-spec =
+pub validate_node_spec : {M : Type 1} → statement M
+validate_node_spec =
     tie.close
     (tie.spec
     (λ c κs. search rules)

@@ -4,8 +4,8 @@ use Rattle.conditions.proofs.NodeParts.{range-found}
 use Rattle.conditions.proofs.node.validate_range.Statement.{statement}
 use Rattle.conditions.proofs.node.validate_range.Tie as tie
 
-pub validate-range-spec : {M : Type 1} → statement M
-validate-range-spec =
+pub validate_range_spec : {M : Type 1} → statement M
+validate_range_spec =
     tie.close
     (tie.spec
     (λ c κs. search rules)

@@ -4,8 +4,8 @@ use Rattle.conditions.proofs.Constants.{known-imported, known-undeclared, known-
 use Rattle.conditions.proofs.operand.is_known_const.Statement.{statement}
 use Rattle.conditions.proofs.operand.is_known_const.Tie as tie
 
-pub is-known-const-spec : {M : Type 1} → statement M
-is-known-const-spec =
+pub is_known_const_spec : {M : Type 1} → statement M
+is_known_const_spec =
     tie.close
     (tie.spec
     (λ c κs. search rules)

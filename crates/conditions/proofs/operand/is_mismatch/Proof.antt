@@ -4,6 +4,6 @@ use Rattle.conditions.specs.Taken.{mismatches}
 use Rattle.conditions.proofs.operand.is_mismatch.Statement.{statement}
 use Rattle.conditions.proofs.operand.is_mismatch.Tie as tie
 
-pub is-mismatch-spec : {M : Type 1} → statement M
+pub is_mismatch_spec : {M : Type 1} → statement M
 unfolding mismatches
-is-mismatch-spec = tie.close (tie.spec (λ c. refl))
+is_mismatch_spec = tie.close (tie.spec (λ c. refl))

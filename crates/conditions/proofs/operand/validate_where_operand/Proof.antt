@@ -4,8 +4,8 @@ use Rattle.conditions.proofs.OperandRules.{no_operand, constant-operand, literal
 use Rattle.conditions.proofs.operand.validate_where_operand.Statement.{statement}
 use Rattle.conditions.proofs.operand.validate_where_operand.Tie as tie
 
-pub validate-where-operand-spec : {M : Type 1} → statement M
-validate-where-operand-spec =
+pub validate_where_operand_spec : {M : Type 1} → statement M
+validate_where_operand_spec =
     tie.close
     (tie.spec
     (λ c κs. search rules)

@@ -4,8 +4,8 @@ use Rattle.conditions.proofs.ConditionOperands.{operands-cut, operands-whole}
 use Rattle.conditions.proofs.operands.operands_end.Statement.{statement}
 use Rattle.conditions.proofs.operands.operands_end.Tie as tie
 
-pub operands-end-spec : {M : Type 1} → statement M
-operands-end-spec =
+pub operands_end_spec : {M : Type 1} → statement M
+operands_end_spec =
     tie.close
     (tie.spec
     (λ c. search rules)

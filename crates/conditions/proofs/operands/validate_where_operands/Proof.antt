@@ -25,8 +25,8 @@ invariant-loop sheet table list₀ i e literals end counts₀ j₀ list counts j
 abbrev decreases-loop : tie.decreases-loop
 decreases-loop sheet table list₀ i e literals end counts₀ j₀ list counts j = end - j
 
-pub validate-where-operands-spec : {M : Type 1} → statement M
-validate-where-operands-spec =
+pub validate_where_operands_spec : {M : Type 1} → statement M
+validate_where_operands_spec =
     tie.close
     (tie.spec
     invariant-loop
@@ -41,7 +41,7 @@ validate-where-operands-spec =
     (λ c.
     let turn = c.before.before in (
       search rules,
-      each_next _ _ _ _ _ _ _ turn.before.before.loop-test.true turn.validate-where-operand.ensures
+      each_next _ _ _ _ _ _ _ turn.before.before.loop-test.true turn.validate_where_operand.ensures
           turn.before.before.before.loop.invariant.1,
     ))
     (λ c. search rules)

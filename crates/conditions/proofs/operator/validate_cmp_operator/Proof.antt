@@ -4,8 +4,8 @@ use Rattle.conditions.proofs.OperatorRule.{operator-found}
 use Rattle.conditions.proofs.operator.validate_cmp_operator.Statement.{statement}
 use Rattle.conditions.proofs.operator.validate_cmp_operator.Tie as tie
 
-pub validate-cmp-operator-spec : {M : Type 1} → statement M
-validate-cmp-operator-spec =
+pub validate_cmp_operator_spec : {M : Type 1} → statement M
+validate_cmp_operator_spec =
     tie.close
     (tie.spec
     (λ c κs. search rules)

@@ -4,8 +4,8 @@ use Rattle.diagnostic.proofs.Stores.{put16-is}
 use Rattle.diagnostic.proofs.encode.put16.Statement.{statement}
 use Rattle.diagnostic.proofs.encode.put16.Tie as tie
 
-pub put16-spec : {M : Type 1} → statement M
-put16-spec =
+pub put16_spec : {M : Type 1} → statement M
+put16_spec =
     tie.close
     (tie.spec
     (λ c. search rules)

@@ -4,8 +4,8 @@ use Rattle.diagnostic.proofs.Stores.{put32-is}
 use Rattle.diagnostic.proofs.encode.put32.Statement.{statement}
 use Rattle.diagnostic.proofs.encode.put32.Tie as tie
 
-pub put32-spec : {M : Type 1} → statement M
-put32-spec =
+pub put32_spec : {M : Type 1} → statement M
+put32_spec =
     tie.close
     (tie.spec
     (λ c. search rules)

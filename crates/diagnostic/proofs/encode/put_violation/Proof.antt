@@ -4,8 +4,8 @@ use Rattle.diagnostic.proofs.Stores.{put-violation-is}
 use Rattle.diagnostic.proofs.encode.put_violation.Statement.{statement}
 use Rattle.diagnostic.proofs.encode.put_violation.Tie as tie
 
-pub put-violation-spec : {M : Type 1} → statement M
-put-violation-spec =
+pub put_violation_spec : {M : Type 1} → statement M
+put_violation_spec =
     tie.close
     (tie.spec
     (λ c κs. search rules)

@@ -4,8 +4,8 @@ use Rattle.diagnostic.proofs.OnePush.{counted-error, counted-other}
 use Rattle.diagnostic.proofs.list.count_one.Statement.{statement}
 use Rattle.diagnostic.proofs.list.count_one.Tie as tie
 
-pub count-one-spec : {M : Type 1} → statement M
-count-one-spec =
+pub count_one_spec : {M : Type 1} → statement M
+count_one_spec =
     tie.close
     (tie.spec
     (λ c κs. search rules)

@@ -4,8 +4,8 @@ use Rattle.diagnostic.proofs.OnePush.{pushed-bad, pushed-good}
 use Rattle.diagnostic.proofs.list.push_if.Statement.{statement}
 use Rattle.diagnostic.proofs.list.push_if.Tie as tie
 
-pub push-if-spec : {M : Type 1} → statement M
-push-if-spec =
+pub push_if_spec : {M : Type 1} → statement M
+push_if_spec =
     tie.close (tie.spec
     (λ c κs. search rules)
     (λ c. search rules)

@@ -4,6 +4,6 @@ use Rattle.rules.specs.Words.{any_of}
 use Rattle.names.proofs.asked.is_compared.Statement.{statement}
 use Rattle.names.proofs.asked.is_compared.Tie as tie
 
-pub is-compared-spec : {M : Type 1} → statement M
+pub is_compared_spec : {M : Type 1} → statement M
 unfolding any_of
-is-compared-spec = tie.close (tie.spec (λ c. simp (or_assoc, or-false)))
+is_compared_spec = tie.close (tie.spec (λ c. simp (or_assoc, or-false)))

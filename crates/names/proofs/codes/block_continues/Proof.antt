@@ -6,8 +6,8 @@ use Rattle.names.proofs.codes.block_continues.Tie as tie
 
 ruleset laws = (rules, piece-told)
 
-pub block-continues-spec : {M : Type 1} → statement M
-block-continues-spec =
+pub block_continues_spec : {M : Type 1} → statement M
+block_continues_spec =
     tie.close
     (tie.spec
     (λ c κs. search laws)

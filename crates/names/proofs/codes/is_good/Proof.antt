@@ -4,8 +4,8 @@ use Rattle.names.proofs.Blocks.{looked, judged-more, known-good}
 use Rattle.names.proofs.codes.is_good.Statement.{statement}
 use Rattle.names.proofs.codes.is_good.Tie as tie
 
-pub is-good-spec : {M : Type 1} → statement M
-is-good-spec =
+pub is_good_spec : {M : Type 1} → statement M
+is_good_spec =
     tie.close
     (tie.spec
     (λ c. (λ e. cc, search rules))
@@ -22,9 +22,9 @@ is-good-spec =
     (λ c κs. search rules)
     (λ c. search rules)
     (λ c.
-    let look = c.before.continue-by.ensures in
+    let look = c.before.continue_by.ensures in
     let ended = c.before.before.before in
-    let end = ended.block-end.ensures in
+    let end = ended.block_end.ensures in
     let judged = ended.before.before.before.before.before.requires.1 in (
       looked _ _ _ _ _ look end.0 end.1 end.2 end.3,
       judged-more _ _ _ _ _ look end.0 end.1 end.2 end.3 _ _ judged c.Known-of.ensures,

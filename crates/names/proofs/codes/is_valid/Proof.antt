@@ -9,8 +9,8 @@ use Rattle.names.proofs.Numbers.{name-fits, name-read}
 use Rattle.names.proofs.codes.is_valid.Statement.{statement}
 use Rattle.names.proofs.codes.is_valid.Tie as tie
 
-pub is-valid-spec : {M : Type 1} → statement M
-is-valid-spec =
+pub is_valid_spec : {M : Type 1} → statement M
+is_valid_spec =
     tie.close
     (tie.spec
     (λ c.
@@ -27,27 +27,27 @@ is-valid-spec =
     let first = test.before.before.before in
     let start = first.before.before.before.before in (
       valid-by _ start.requires.2 _ _
-          (good_start _ _ _ _ first.if1.false test.before.starts_by.ensures (not-false _ test.if2.false) c.continue-by.ensures),
+          (good_start _ _ _ _ first.if1.false test.before.starts_by.ensures (not-false _ test.if2.false) c.continue_by.ensures),
       start.requires.3,
     ))
     (λ c κs. search rules)
     (λ c κs. search rules)
     (λ c.
     let start = c.before.before.before.before.before.before.before.before.before.before in
-    let fits = name-fits _ _ 0 start.requires.0 _ _ c.before.name-offset.ensures c.name-len.ensures in
+    let fits = name-fits _ _ 0 start.requires.0 _ _ c.before.name_offset.ensures c.name_len.ensures in
     search rules)
     (λ c κs.
     let read = c.before in
     let start = read.before.before.before.before.before.before.before.before.before.before in
-    let fits = name-fits _ _ 0 start.requires.0 _ _ read.before.name-offset.ensures read.name-len.ensures in
+    let fits = name-fits _ _ 0 start.requires.0 _ _ read.before.name_offset.ensures read.name_len.ensures in
     (omega arith, fits, start.requires.3))
     (λ c.
     let read = c.before.before in
     let test = read.before.before.before in
     let first = test.before.before.before in
     let start = first.before.before.before.before in
-    let name = name-read _ _ 0 start.requires.0 _ _ read.before.name-offset.ensures read.name-len.ensures ∙ sym start.requires.1 in
-    let all = same-bytes-continue _ _ _ _ name c.part-continues.ensures.0 in (
+    let name = name-read _ _ 0 start.requires.0 _ _ read.before.name_offset.ensures read.name_len.ensures ∙ sym start.requires.1 in
+    let all = same-bytes-continue _ _ _ _ name c.part_continues.ensures.0 in (
       valid-by _ start.requires.2 _ _ (good_start _ _ _ _ first.if1.false test.before.starts_by.ensures (not-false _ test.if2.false) all),
-      c.part-continues.ensures.1,
+      c.part_continues.ensures.1,
     )))

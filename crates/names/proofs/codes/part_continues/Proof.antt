@@ -20,8 +20,8 @@ decreases-loop marks names blocks₀ a e i₀ blocks i = e - i
 
 ruleset laws = (rules, not-true, not-false, piece-goes-on, piece-stops, pieces-all)
 
-pub part-continues-spec : {M : Type 1} → statement M
-part-continues-spec =
+pub part_continues_spec : {M : Type 1} → statement M
+part_continues_spec =
     tie.close
     (tie.spec
     invariant-loop

@@ -16,9 +16,9 @@ decreases-loop a b at n all₀ k₀ all k = n - k
 
 ruleset laws = (rules, none-fails, one_more, window-done)
 
-pub window-same-spec : {M : Type 1} → statement M
+pub window_same_spec : {M : Type 1} → statement M
 unfolding same_at
-window-same-spec =
+window_same_spec =
     tie.close
     (tie.spec
     invariant-loop

@@ -15,8 +15,8 @@ invariant-loop a b n last i₀ i = Walked (same_at a b) n (length a) last i
 abbrev decreases-loop : tie.decreases-loop
 decreases-loop a b n last i₀ i = length a - i
 
-pub windows-same-spec : {M : Type 1} → statement M
-windows-same-spec =
+pub windows_same_spec : {M : Type 1} → statement M
+windows_same_spec =
     tie.close
     (tie.spec
     invariant-loop

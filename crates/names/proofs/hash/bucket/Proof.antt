@@ -5,6 +5,6 @@ use Rattle.names.proofs.Weighed.{bucket-read}
 use Rattle.names.proofs.hash.bucket.Statement.{statement}
 use Rattle.names.proofs.hash.bucket.Tie as tie
 
-pub bucket-spec : {M : Type 1} → statement M
-bucket-spec =
+pub bucket_spec : {M : Type 1} → statement M
+bucket_spec =
     tie.close (tie.spec (λ c κs. search rules) (λ c. search rules) (λ c. bucket-read _ _ _ c.weigh.ensures refl))

@@ -6,8 +6,8 @@ use Rattle.names.proofs.hash.weigh.Tie as tie
 
 ruleset laws = (rules, weighs-bytes, weighs-ends, weighs-next, weighs-middle)
 
-pub weigh-spec : {M : Type 1} → statement M
-weigh-spec =
+pub weigh_spec : {M : Type 1} → statement M
+weigh_spec =
     tie.close
     (tie.spec
     (λ c κs. search rules)

@@ -4,9 +4,9 @@ use Rattle.names.specs.Buckets.{word_at}
 use Rattle.names.proofs.hash.word.Statement.{statement}
 use Rattle.names.proofs.hash.word.Tie as tie
 
-pub word-spec : {M : Type 1} → statement M
+pub word_spec : {M : Type 1} → statement M
 unfolding word_at
-word-spec =
+word_spec =
     tie.close
     (tie.spec
     (λ c. search rules)

@@ -12,8 +12,8 @@ decreases-loop sheet names heads links i name b place₀ place = place
 
 ruleset laws = (rules, walk-ended, walk-found, walk-on, walk-less)
 
-pub first-same-spec : {M : Type 1} → statement M
-first-same-spec =
+pub first_same_spec : {M : Type 1} → statement M
+first_same_spec =
     tie.close
     (tie.spec
     invariant-loop

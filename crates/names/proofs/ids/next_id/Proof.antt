@@ -8,26 +8,26 @@ use Rattle.names.proofs.Numbers.{kind-tested}
 use Rattle.names.proofs.ids.next_id.Statement.{statement}
 use Rattle.names.proofs.ids.next_id.Tie as tie
 
-pub next-id-spec : {M : Type 1} → statement M
-next-id-spec =
+pub next_id_spec : {M : Type 1} → statement M
+next_id_spec =
     tie.close
     (tie.spec
     (λ c κs. search rules)
     (λ c.
     let start = c.before.before.before.before.before.requires in
-    let keyed = kind-tested _ _ _ start.2 _ start.3 is_compared _ c.before.is-compared.ensures in
+    let keyed = kind-tested _ _ _ start.2 _ start.3 is_compared _ c.before.is_compared.ensures in
     added_none _ _ _ _ _ start.0 start.1 start.5 (keyed ∙ not-true _ c.if1.true))
     (λ c κs. search rules)
     (λ c κs.
     let read = c.before.before in
     let test = read.before in
     let start = test.before.before.before.before.before.requires in
-    let keyed = kind-tested _ _ _ start.2 _ start.3 is_compared _ test.before.is-compared.ensures in
+    let keyed = kind-tested _ _ _ start.2 _ start.3 is_compared _ test.before.is_compared.ensures in
     (start.0, keyed ∙ not-false _ test.if1.false, start.4, bucket-of _ _ _ _ _ start.4 read.bucket.ensures.0, read.bucket.ensures.1, start.5))
     (λ c.
     let called = c.before in
     let start = called.before.before.before.before.before.before.before.before.before.requires in
-    let found = called.first-same.ensures in
+    let found = called.first_same.ensures in
     (found.0, found.1, added-old _ _ _ _ _ start.0 start.1 start.5 _ found.0 c.if2.true))
     (λ c. search rules)
     (λ c. search rules)
@@ -43,8 +43,8 @@ next-id-spec =
     let read = called.before.before.before in
     let test = read.before in
     let start = test.before.before.before.before.before.requires in
-    let keyed = kind-tested _ _ _ start.2 _ start.3 is_compared _ test.before.is-compared.ensures in
-    let found = called.first-same.ensures in (
+    let keyed = kind-tested _ _ _ start.2 _ start.3 is_compared _ test.before.is_compared.ensures in
+    let found = called.first_same.ensures in (
       found.0,
       found.1,
       added_new _ _ _ _ _ start.0 start.1 start.5 _ found.0 _ _ (keyed ∙ not-false _ test.if1.false)

@@ -4,5 +4,5 @@ use Rattle.names.proofs.Entries.{not-zero}
 use Rattle.names.proofs.lookup.is_imported.Statement.{statement}
 use Rattle.names.proofs.lookup.is_imported.Tie as tie
 
-pub is-imported-spec : {M : Type 1} → statement M
-is-imported-spec = tie.close (tie.spec (λ c κs. search rules) (λ c. search not-zero))
+pub is_imported_spec : {M : Type 1} → statement M
+is_imported_spec = tie.close (tie.spec (λ c κs. search rules) (λ c. search not-zero))

@@ -18,7 +18,7 @@ returns c =
     let keyed = kind-keyed _ _ _ start.0 _ start.4 start.3 Kind.Declaration refl kind in
     noted-declaration _ _ _ start.0 _ _ start.7 _ start.2 keyed start.5
     (kind-is _ _ _ start.0 _ start.4 Kind.Declaration kind)
-    (kind-is-not _ _ _ start.0 _ start.4 Kind.ImportedName (λ other. omega arith)) _ call.note-declaration.ensures
+    (kind-is-not _ _ _ start.0 _ start.4 Kind.ImportedName (λ other. omega arith)) _ call.note_declaration.ensures
 
 returns-2 : tie.Need-returns-2
 unfolding any_of
@@ -36,8 +36,8 @@ returns-3 c =
     (kind-silent _ _ _ start.0 Kind.Declaration (kind-is-not _ _ _ start.0 _ start.4 Kind.Declaration c.before.if1.false))
     (kind-silent _ _ _ start.0 Kind.ImportedName (kind-is-not _ _ _ start.0 _ start.4 Kind.ImportedName c.if2.false))
 
-pub note-spec : {M : Type 1} → statement M
-note-spec =
+pub note_spec : {M : Type 1} → statement M
+note_spec =
     tie.close
     (tie.spec
     (λ c κs. search rules)

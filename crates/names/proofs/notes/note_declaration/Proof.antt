@@ -4,8 +4,8 @@ use Rattle.names.proofs.Noting.{first-kept, first-set}
 use Rattle.names.proofs.notes.note_declaration.Statement.{statement}
 use Rattle.names.proofs.notes.note_declaration.Tie as tie
 
-pub note-declaration-spec : {M : Type 1} → statement M
-note-declaration-spec =
+pub note_declaration_spec : {M : Type 1} → statement M
+note_declaration_spec =
     tie.close
     (tie.spec
     (λ c. search rules)

@@ -21,8 +21,8 @@ returns-2 c =
     let start = read.before.before.before.before.before.requires in
     spread-declared _ _ _ _ start.1 start.3 _ read.index.ensures _ refl _ refl _ _ c.before.index2.ensures c.target.ensures
 
-pub spread-spec : {M : Type 1} → statement M
-spread-spec =
+pub spread_spec : {M : Type 1} → statement M
+spread_spec =
     tie.close
     (tie.spec
     (λ c. search rules)

@@ -4,20 +4,20 @@ use Rattle.names.proofs.Numbers.{name-fits, name-read}
 use Rattle.names.proofs.own.first_name.Statement.{statement}
 use Rattle.names.proofs.own.first_name.Tie as tie
 
-pub first-name-spec : {M : Type 1} → statement M
-first-name-spec =
+pub first_name_spec : {M : Type 1} → statement M
+first_name_spec =
     tie.close
     (tie.spec
     (λ c κs. search rules)
     (λ c κs. search rules)
     (λ c.
-    let fits = name-fits _ _ 0 c.before.before.before.before.requires _ _ c.before.name-offset.ensures c.name-len.ensures in
+    let fits = name-fits _ _ 0 c.before.before.before.before.requires _ _ c.before.name_offset.ensures c.name_len.ensures in
     search rules)
     (λ c. search rules)
     (λ c.
-    let fits = name-fits _ _ 0 c.before.before.before.before.requires _ _ c.before.name-offset.ensures c.name-len.ensures in
+    let fits = name-fits _ _ 0 c.before.before.before.before.requires _ _ c.before.name_offset.ensures c.name_len.ensures in
     search rules)
     (λ c.
-    let fits = name-fits _ _ 0 c.before.before.before.before.requires _ _ c.before.name-offset.ensures c.name-len.ensures in
+    let fits = name-fits _ _ 0 c.before.before.before.before.requires _ _ c.before.name_offset.ensures c.name_len.ensures in
     search rules)
-    (λ c. name-read _ _ 0 c.before.before.before.before.before.requires _ _ c.before.before.name-offset.ensures c.before.name-len.ensures))
+    (λ c. name-read _ _ 0 c.before.before.before.before.before.requires _ _ c.before.before.name_offset.ensures c.before.name_len.ensures))

@@ -8,8 +8,8 @@ use Rattle.names.proofs.own.is_first_named.Tie as tie
 
 ruleset laws = (rules, not-true, named_none)
 
-pub is-first-named-spec : {M : Type 1} → statement M
-is-first-named-spec =
+pub is_first_named_spec : {M : Type 1} → statement M
+is_first_named_spec =
     tie.close
     (tie.spec
     (λ c κs. search rules)
@@ -18,11 +18,11 @@ is-first-named-spec =
     (λ c κs. search rules)
     (λ c.
     let has = c.before.before.before in
-    named-unfit _ _ _ _ has.before.has-name.ensures (not-false _ has.if1.false) _ _ c.before.before.name-offset.ensures c.before.name-len.ensures (omega arith))
+    named-unfit _ _ _ _ has.before.has_name.ensures (not-false _ has.if1.false) _ _ c.before.before.name_offset.ensures c.before.name_len.ensures (omega arith))
     (λ c. search rules)
     (λ c.
     let has = c.before.before.before.before in
-    named-unfit _ _ _ _ has.before.has-name.ensures (not-false _ has.if1.false) _ _ c.before.before.before.name-offset.ensures c.before.before.name-len.ensures (omega arith))
+    named-unfit _ _ _ _ has.before.has_name.ensures (not-false _ has.if1.false) _ _ c.before.before.before.name_offset.ensures c.before.before.name_len.ensures (omega arith))
     (λ c.
     let has = c.before.before.before.before in
-    named-fit _ _ _ _ has.before.has-name.ensures (not-false _ has.if1.false) _ _ c.before.before.before.name-offset.ensures c.before.before.name-len.ensures (omega arith)))
+    named-fit _ _ _ _ has.before.has_name.ensures (not-false _ has.if1.false) _ _ c.before.before.before.name_offset.ensures c.before.before.name_len.ensures (omega arith)))

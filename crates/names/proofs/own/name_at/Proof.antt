@@ -5,8 +5,8 @@ use Rattle.names.proofs.Numbers.{own_name, named-own}
 use Rattle.names.proofs.own.name_at.Statement.{statement}
 use Rattle.names.proofs.own.name_at.Tie as tie
 
-pub name-at-spec : {M : Type 1} → statement M
-name-at-spec =
+pub name_at_spec : {M : Type 1} → statement M
+name_at_spec =
     tie.close
     (tie.spec
     (λ c. search rules)
@@ -21,4 +21,4 @@ name-at-spec =
     (λ c.
     let start = c.before.before.before.before in
     let own = whole-record start.args.sheet.now start.args.i in
-    own_name start.args.sheet.now start.args.names.now _ start.args.i own _ c.first-name.ensures))
+    own_name start.args.sheet.now start.args.names.now _ start.args.i own _ c.first_name.ensures))

@@ -24,8 +24,8 @@ decreases-loop sheet names table n wildcard₀ found₀ j₀ wildcard found j = 
 
 ruleset laws = (rules, wildcard-next, wildcard-all, declaration-next, declaration-all, totals-stored)
 
-pub fill-totals-spec : {M : Type 1} → statement M
-fill-totals-spec =
+pub fill_totals_spec : {M : Type 1} → statement M
+fill_totals_spec =
     tie.close
     (tie.spec
     invariant-loop

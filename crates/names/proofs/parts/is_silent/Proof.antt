@@ -15,8 +15,8 @@ invariant-loop table n noted₀ k₀ noted k = (k ≤ n) × (noted ≡ false →
 abbrev decreases-loop : tie.decreases-loop
 decreases-loop table n noted₀ k₀ noted k = n - k
 
-pub is-silent-spec : {M : Type 1} → statement M
-is-silent-spec =
+pub is_silent_spec : {M : Type 1} → statement M
+is_silent_spec =
     tie.close
     (tie.spec
     invariant-loop

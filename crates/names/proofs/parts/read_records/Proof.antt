@@ -30,15 +30,15 @@ read-requires c κs =
       rw (← count.0) inside,
       omega (arith, count.1),
       whole-known _ _ _ count.0 inside,
-      begun.name-marks.ensures,
+      begun.name_marks.ensures,
       inv.1,
       inv.3.size,
       inv.2,
       inv.3,
     )
 
-pub read-records-spec : {M : Type 1} → statement M
-read-records-spec =
+pub read_records_spec : {M : Type 1} → statement M
+read_records_spec =
     tie.close
     (tie.spec
     invariant-loop

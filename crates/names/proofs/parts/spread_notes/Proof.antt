@@ -21,8 +21,8 @@ spread-requires c κs =
     let inside = turn.loop-test.true in
     (inv.size, rw (← count.0) inside, omega (arith, count.1), inv)
 
-pub spread-notes-spec : {M : Type 1} → statement M
-spread-notes-spec =
+pub spread_notes_spec : {M : Type 1} → statement M
+spread_notes_spec =
     tie.close
     (tie.spec
     invariant-loop
@@ -33,7 +33,7 @@ spread-notes-spec =
     (λ c.
     let asked = c.before in
     let start = asked.before.before.before.before.before.before in
-    none-spread _ _ _ _ asked.before.before.count.ensures.0 (asked.is-silent.ensures c.if1.true) start.requires.1)
+    none-spread _ _ _ _ asked.before.before.count.ensures.0 (asked.is_silent.ensures c.if1.true) start.requires.1)
     (λ c. (omega arith, spread_none _ _ _ c.before.before.before.before.before.before.before.requires.1))
     spread-requires
     (λ c. search rules)

@@ -6,8 +6,8 @@ use Rattle.names.proofs.records.next_code.Tie as tie
 
 ruleset laws = (rules, worded-code, unasked-code, judged-code)
 
-pub next-code-spec : {M : Type 1} → statement M
-next-code-spec =
+pub next_code_spec : {M : Type 1} → statement M
+next_code_spec =
     tie.close
     (tie.spec
     (λ c κs. search rules)

@@ -19,41 +19,41 @@ returns c =
     let test = c.before in
     let start = test.before.before.before.before.before.before in
     let own = whole-record start.args.sheet.now start.args.i in
-    let named = own-named start.args.sheet.now start.args.names.now _ start.args.i own _ test.before.is-first-named.ensures in
+    let named = own-named start.args.sheet.now start.args.names.now _ start.args.i own _ test.before.is_first_named.ensures in
     let unnamed = sym named ∙ not-true _ test.if1.true in (
       start.requires.4,
       added-unnamed _ _ _ _ _ start.requires.0 start.requires.1 start.requires.6 (unnamed-keyed (record_of start.args.sheet.now start.args.names.now start.args.i) unnamed),
       read-unnamed _ _ _ start.requires.0 _ start.requires.7 unnamed _ c.short.ensures,
     )
 
-first-name-requires : tie.Need-first-name-requires
-first-name-requires c κs = sym c.before.is-first-named.ensures ∙ not-false _ c.if1.false
+first-name-requires : tie.Need-first_name-requires
+first-name-requires c κs = sym c.before.is_first_named.ensures ∙ not-false _ c.if1.false
 
-next-id-requires : tie.Need-next-id-requires
+next-id-requires : tie.Need-next_id-requires
 next-id-requires c κs =
     let kinds = c.before.before in
     let read = kinds.before in
     let test = read.before in
     let start = test.before.before.before.before.before.before in
     let own = whole-record start.args.sheet.now start.args.i in
-    let named = own-named start.args.sheet.now start.args.names.now _ start.args.i own _ test.before.is-first-named.ensures in (
+    let named = own-named start.args.sheet.now start.args.names.now _ start.args.i own _ test.before.is_first_named.ensures in (
       start.requires.0,
       start.requires.1,
       sym named ∙ not-false _ test.if1.false,
       own-kind start.args.sheet.now start.args.names.now _ start.args.i own _ kinds.kind.ensures,
-      own_name start.args.sheet.now start.args.names.now _ start.args.i own _ read.first-name.ensures,
+      own_name start.args.sheet.now start.args.names.now _ start.args.i own _ read.first_name.ensures,
       start.requires.6,
     )
 
-next-code-requires : tie.Need-next-code-requires
+next-code-requires : tie.Need-next_code-requires
 next-code-requires c κs =
     let next = c.before in
     let kinds = next.before.before.before in
     let read = kinds.before in
     let test = read.before in
     let start = test.before.before.before.before.before.before in (
-      sym test.before.is-first-named.ensures ∙ not-false _ test.if1.false,
-      read.first-name.ensures,
+      sym test.before.is_first_named.ensures ∙ not-false _ test.if1.false,
+      read.first_name.ensures,
       start.requires.3,
       start.requires.4,
     )
@@ -67,10 +67,10 @@ note-requires c κs =
     let test = read.before in
     let start = test.before.before.before.before.before.before in
     let own = whole-record start.args.sheet.now start.args.i in
-    let named = own-named start.args.sheet.now start.args.names.now _ start.args.i own _ test.before.is-first-named.ensures in
+    let named = own-named start.args.sheet.now start.args.names.now _ start.args.i own _ test.before.is_first_named.ensures in
     let known = sym named ∙ not-false _ test.if1.false in
-    let id = next.next-id.ensures in
-    let name = own_name start.args.sheet.now start.args.names.now _ start.args.i own _ read.first-name.ensures in
+    let id = next.next_id.ensures in
+    let name = own_name start.args.sheet.now start.args.names.now _ start.args.i own _ read.first_name.ensures in
     let kind = own-kind start.args.sheet.now start.args.names.now _ start.args.i own _ kinds.kind.ensures in (
       start.requires.0,
       start.requires.1,
@@ -79,14 +79,14 @@ note-requires c κs =
       kind,
       id.0,
       search rules,
-      read_named _ _ _ start.requires.0 _ start.requires.7 known _ _ _ c.before.short2.ensures id.0 _ kind _ name coded.next-code.ensures.0,
+      read_named _ _ _ start.requires.0 _ start.requires.7 known _ _ _ c.before.short2.ensures id.0 _ kind _ name coded.next_code.ensures.0,
     )
 
 returns-2 : tie.Need-returns-2
 returns-2 c =
     let noted = c.before.before in
     let coded = noted.before.before.before in
-    (coded.next-code.ensures.1, coded.before.before.next-id.ensures.2, noted.note.ensures)
+    (coded.next_code.ensures.1, coded.before.before.next_id.ensures.2, noted.note.ensures)
 
 pub read_spec : {M : Type 1} → statement M
 read_spec =

@@ -4,8 +4,8 @@ use Rattle.names.proofs.Targeted.{target-in, target-out}
 use Rattle.names.proofs.shorten.set_target.Statement.{statement}
 use Rattle.names.proofs.shorten.set_target.Tie as tie
 
-pub set-target-spec : {M : Type 1} → statement M
-set-target-spec =
+pub set_target_spec : {M : Type 1} → statement M
+set_target_spec =
     tie.close
     (tie.spec
     (λ c. search rules)

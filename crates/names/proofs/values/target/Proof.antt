@@ -6,8 +6,8 @@ use Rattle.names.proofs.values.target.Tie as tie
 
 ruleset laws = (rules, target_none, target_at_lem)
 
-pub target-spec : {M : Type 1} → statement M
-target-spec = tie.close (tie.spec
+pub target_spec : {M : Type 1} → statement M
+target_spec = tie.close (tie.spec
     (λ c. search laws)
     (λ c κs. search laws)
     (λ c. search laws))

@@ -6,8 +6,8 @@ use Rattle.names.proofs.values.type_after.Tie as tie
 
 ruleset laws = (rules, none_after, no-newtype, type-after, no-type-after)
 
-pub type-after-spec : {M : Type 1} → statement M
-type-after-spec =
+pub type_after_spec : {M : Type 1} → statement M
+type_after_spec =
     tie.close
     (tie.spec
     (λ c κs. search laws)

@@ -5,9 +5,9 @@ use Rattle.names.specs.Code.{started_from}
 use Rattle.names.proofs.words.d_word.Statement.{statement}
 use Rattle.names.proofs.words.d_word.Tie as tie
 
-pub d-word-spec : {M : Type 1} → statement M
+pub d_word_spec : {M : Type 1} → statement M
 unfolding started_from
-d-word-spec =
+d_word_spec =
     tie.close
     (tie.spec
     (λ c. search rules)

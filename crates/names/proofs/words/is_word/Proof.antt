@@ -6,8 +6,8 @@ use Rattle.names.proofs.words.is_word.Tie as tie
 
 ruleset laws = (rules, lengths_differ, all_same)
 
-pub is-word-spec : {M : Type 1} → statement M
-is-word-spec = tie.close (tie.spec
+pub is_word_spec : {M : Type 1} → statement M
+is_word_spec = tie.close (tie.spec
     (λ c. search laws)
     (λ c κs. search laws)
     (λ c. search laws))

@@ -6,8 +6,8 @@ use Rattle.names.proofs.words.place_if.Tie as tie
 
 ruleset laws = (rules, place_here, place_none)
 
-pub place-if-spec : {M : Type 1} → statement M
-place-if-spec = tie.close (tie.spec
+pub place_if_spec : {M : Type 1} → statement M
+place_if_spec = tie.close (tie.spec
     (λ c κs. search laws)
     (λ c. search laws)
     (λ c. search laws))

@@ -5,9 +5,9 @@ use Rattle.names.proofs.WordCodes.{started-word, started-place, other_word}
 use Rattle.names.proofs.words.word.Statement.{statement}
 use Rattle.names.proofs.words.word.Tie as tie
 
-pub word-spec : {M : Type 1} → statement M
+pub word_spec : {M : Type 1} → statement M
 unfolding started_from
-word-spec =
+word_spec =
     tie.close
     (tie.spec
     (λ c. search rules)

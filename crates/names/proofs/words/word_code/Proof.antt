@@ -6,8 +6,8 @@ use Rattle.names.proofs.words.word_code.Tie as tie
 
 ruleset laws = (rules, code-word, code-blank)
 
-pub word-code-spec : {M : Type 1} → statement M
-word-code-spec =
+pub word_code_spec : {M : Type 1} → statement M
+word_code_spec =
     tie.close
     (tie.spec
     (λ c. search laws)

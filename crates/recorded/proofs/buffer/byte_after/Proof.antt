@@ -6,8 +6,8 @@ use Rattle.recorded.proofs.buffer.byte_after.Tie as tie
 
 ruleset laws = (rules, written_byte, kept_byte)
 
-pub byte-after-spec : {M : Type 1} → statement M
-byte-after-spec =
+pub byte_after_spec : {M : Type 1} → statement M
+byte_after_spec =
     tie.close
     (tie.spec
     (λ c κs. search laws)

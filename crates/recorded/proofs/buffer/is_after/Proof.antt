@@ -18,8 +18,8 @@ decreases-loop violations list i₀ i = length list - i
 
 ruleset laws = (rules, byte-differs, byte-agrees, every_byte)
 
-pub is-after-spec : {M : Type 1} → statement M
-is-after-spec =
+pub is_after_spec : {M : Type 1} → statement M
+is_after_spec =
     tie.close
     (tie.spec
     invariant-loop

@@ -4,8 +4,8 @@ use Rattle.recorded.proofs.Counts.{no_length, short-length, cut-length, exact-le
 use Rattle.recorded.proofs.replay.buffer_len.Statement.{statement}
 use Rattle.recorded.proofs.replay.buffer_len.Tie as tie
 
-pub buffer-len-spec : {M : Type 1} → statement M
-buffer-len-spec =
+pub buffer_len_spec : {M : Type 1} → statement M
+buffer_len_spec =
     tie.close
     (tie.spec
     (λ c κs. search rules)

@@ -4,8 +4,8 @@ use Rattle.recorded.proofs.Replayed.{same-call}
 use Rattle.recorded.proofs.replay.is_same.Statement.{statement}
 use Rattle.recorded.proofs.replay.is_same.Tie as tie
 
-pub is-same-spec : {M : Type 1} → statement M
-is-same-spec =
+pub is_same_spec : {M : Type 1} → statement M
+is_same_spec =
     tie.close
     (tie.spec
     (λ c κs. search rules)
@@ -15,4 +15,4 @@ is-same-spec =
     (λ c. search rules)
     (λ c. let checked = c.before.before.before.before.before in
     let filled = checked.before.before.before.before in
-    same-call _ _ _ _ checked.vexil-check.new.1.1.0 _ _ _ _ _ filled.fill.ensures checked.vexil-check.ensures.0 c.before.before.same-values.ensures c.is-after.ensures (search rules)))
+    same-call _ _ _ _ checked.vexil_check.new.1.1.0 _ _ _ _ _ filled.fill.ensures checked.vexil_check.ensures.0 c.before.before.same_values.ensures c.is_after.ensures (search rules)))

@@ -23,8 +23,8 @@ decreases-loop sheet names told violations list₀ same₀ i₀ list same i = 5 
 
 ruleset laws = (rules, buffer-first, buffer-next, buffer-all)
 
-pub same-starts-spec : {M : Type 1} → statement M
-same-starts-spec =
+pub same_starts_spec : {M : Type 1} → statement M
+same_starts_spec =
     tie.close
     (tie.spec
     invariant-loop
@@ -44,7 +44,7 @@ same-starts-spec =
       omega arith,
       omega arith,
       search rules,
-      buffer-next _ _ _ _ _ _ start.invariant.3 start.list _ _ _ (omega arith) measured.buffer-len.ensures.0 (omega arith) called.is_same.ensures c.one-if.ensures.0,
+      buffer-next _ _ _ _ _ _ start.invariant.3 start.list _ _ _ (omega arith) measured.buffer_len.ensures.0 (omega arith) called.is_same.ensures c.one_if.ensures.0,
     ))
     (λ c. search rules)
     (λ c. search laws))

@@ -20,9 +20,9 @@ decreases-loop sheet kind sub n found₀ i₀ found i = n - i
 
 ruleset laws = (rules, record-next, record-all)
 
-pub records-of-spec : {M : Type 1} → statement M
+pub records_of_spec : {M : Type 1} → statement M
 unfolding records_of
-records-of-spec =
+records_of_spec =
     tie.close
     (tie.spec
     invariant-loop

@@ -4,8 +4,8 @@ use Rattle.refusals.proofs.RecordBytes.{byte-read}
 use Rattle.refusals.proofs.bytes.byte.Statement.{statement}
 use Rattle.refusals.proofs.bytes.byte.Tie as tie
 
-pub byte-spec : {M : Type 1} → statement M
-byte-spec =
+pub byte_spec : {M : Type 1} → statement M
+byte_spec =
     tie.close
     (tie.spec
     (λ c. omega arith)

@@ -6,8 +6,8 @@ use Rattle.refusals.proofs.bytes.word.Tie as tie
 
 ruleset laws = (rules, word_read)
 
-pub word-spec : {M : Type 1} → statement M
-word-spec =
+pub word_spec : {M : Type 1} → statement M
+word_spec =
     tie.close
     (tie.spec
     (λ c κs. search rules)

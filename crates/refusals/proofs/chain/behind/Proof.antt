@@ -4,8 +4,8 @@ use Rattle.refusals.proofs.ChainWalk.{behind-other, behind-undeclared, behind-ta
 use Rattle.refusals.proofs.chain.behind.Statement.{statement}
 use Rattle.refusals.proofs.chain.behind.Tie as tie
 
-pub behind-spec : {M : Type 1} → statement M
-behind-spec =
+pub behind_spec : {M : Type 1} → statement M
+behind_spec =
     tie.close
     (tie.spec
     (λ c κs. search rules)

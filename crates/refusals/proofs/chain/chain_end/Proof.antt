@@ -11,8 +11,8 @@ invariant-loop sheet table t at₀ left₀ at left = Walk table sheet t left at 
 abbrev decreases-loop : tie.decreases-loop
 decreases-loop sheet table t at₀ left₀ at left = left
 
-pub chain-end-spec : {M : Type 1} → statement M
-chain-end-spec =
+pub chain_end_spec : {M : Type 1} → statement M
+chain_end_spec =
     tie.close
     (tie.spec
     invariant-loop

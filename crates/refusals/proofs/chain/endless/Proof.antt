@@ -21,8 +21,8 @@ invariant-loop sheet table₀ end n i₀ table i =
 abbrev decreases-loop : tie.decreases-loop
 decreases-loop sheet table₀ end n i₀ table i = end - i
 
-pub endless-spec : {M : Type 1} → statement M
-endless-spec =
+pub endless_spec : {M : Type 1} → statement M
+endless_spec =
     tie.close
     (tie.spec
     invariant-loop
@@ -34,7 +34,7 @@ endless-spec =
     (λ c.
     let turn = c.before.before.before.before in
     let inv = turn.loop.invariant in
-    let found = c.before.is-endless.ensures in
+    let found = c.before.is_endless.ensures in
     let here = kept-nowhere _ _ _ turn.loop.i turn.before.records.result _ inv.2 found.0 in
     (endless-found _ _ _ _ _ _ inv.3 here (omega arith) c.if1.true, (kept-through _ _ _ _ inv.2 found.1).same))
     (λ c. search rules)
@@ -42,7 +42,7 @@ endless-spec =
     (λ c.
     let turn = c.before.before.before.before in
     let inv = turn.loop.invariant in
-    let found = c.before.is-endless.ensures in
+    let found = c.before.is_endless.ensures in
     let here = kept-nowhere _ _ _ turn.loop.i turn.before.records.result _ inv.2 found.0 in (
       inv.0,
       omega arith,

@@ -5,8 +5,8 @@ use Rattle.refusals.proofs.ChainEnds.{kept-itself}
 use Rattle.refusals.proofs.chain.is_endless.Statement.{statement}
 use Rattle.refusals.proofs.chain.is_endless.Tie as tie
 
-pub is-endless-spec : {M : Type 1} → statement M
-is-endless-spec =
+pub is_endless_spec : {M : Type 1} → statement M
+is_endless_spec =
     tie.close
     (tie.spec
     (λ c κs. search rules)

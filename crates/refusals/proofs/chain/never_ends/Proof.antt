@@ -4,8 +4,8 @@ use Rattle.refusals.proofs.ChainEnds.{end-found, ended, endless-told, kept-itsel
 use Rattle.refusals.proofs.chain.never_ends.Statement.{statement}
 use Rattle.refusals.proofs.chain.never_ends.Tie as tie
 
-pub never-ends-spec : {M : Type 1} → statement M
-never-ends-spec =
+pub never_ends_spec : {M : Type 1} → statement M
+never_ends_spec =
     tie.close
     (tie.spec
     (λ c κs. search rules)

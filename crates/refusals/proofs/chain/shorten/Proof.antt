@@ -12,8 +12,8 @@ invariant-loop sheet table₀ t end at₀ left₀ table at left = Kept sheet tab
 abbrev decreases-loop : tie.decreases-loop
 decreases-loop sheet table₀ t end at₀ left₀ table at left = left
 
-pub shorten-spec : {M : Type 1} → statement M
-shorten-spec =
+pub shorten_spec : {M : Type 1} → statement M
+shorten_spec =
     tie.close
     (tie.spec
     invariant-loop

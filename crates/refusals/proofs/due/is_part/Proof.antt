@@ -4,8 +4,8 @@ use Rattle.refusals.proofs.Parts.{type-part, condition-part, operand-part}
 use Rattle.refusals.proofs.due.is_part.Statement.{statement}
 use Rattle.refusals.proofs.due.is_part.Tie as tie
 
-pub is-part-spec : {M : Type 1} → statement M
-is-part-spec =
+pub is_part_spec : {M : Type 1} → statement M
+is_part_spec =
     tie.close
     (tie.spec
     (λ c κs. search rules)

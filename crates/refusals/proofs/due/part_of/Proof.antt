@@ -6,5 +6,5 @@ use Rattle.refusals.proofs.due.part_of.Tie as tie
 
 ruleset laws = (rules, number-type, number-condition, number-operand)
 
-pub part-of-spec : {M : Type 1} → statement M
-part-of-spec = tie.close (tie.spec (λ c. search laws) (λ c. search laws) (λ c. search laws))
+pub part_of_spec : {M : Type 1} → statement M
+part_of_spec = tie.close (tie.spec (λ c. search laws) (λ c. search laws) (λ c. search laws))

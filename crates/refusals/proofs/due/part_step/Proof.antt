@@ -7,8 +7,8 @@ use Rattle.refusals.proofs.due.part_step.Tie as tie
 
 ruleset laws = (rules, step-none, top_within)
 
-pub part-step-spec : {M : Type 1} → statement M
-part-step-spec =
+pub part_step_spec : {M : Type 1} → statement M
+part_step_spec =
     tie.close
     (tie.spec
     (λ c. search laws)
@@ -17,17 +17,17 @@ part-step-spec =
     (λ c κs. search rules)
     (λ c κs.
     let asked = c.before.before.before in
-    type-taken _ _ _ _ asked.before.before.before.requires asked.before.before.if1.false refl asked.if2.true _ c.before.before.is-type.ensures c.before.if3.true)
+    type-taken _ _ _ _ asked.before.before.before.requires asked.before.before.if1.false refl asked.if2.true _ c.before.before.is_type.ensures c.before.if3.true)
     (λ c. search rules)
     (λ c.
     let asked = c.before.before in
-    (type-other _ _ _ _ asked.before.before.before.requires asked.before.before.if1.false refl asked.if2.true _ c.before.is-type.ensures c.if3.false, tt))
+    (type-other _ _ _ _ asked.before.before.before.requires asked.before.before.if1.false refl asked.if2.true _ c.before.is_type.ensures c.if3.false, tt))
     (λ c κs. search rules)
     (λ c.
     let asked = c.before.before in
-    (part-other _ _ _ _ asked.before.before.before.requires asked.before.before.if1.false refl _ c.before.is-part.ensures c.if4.true, tt))
+    (part-other _ _ _ _ asked.before.before.before.requires asked.before.before.if1.false refl _ c.before.is_part.ensures c.if4.true, tt))
     (λ c κs. search rules)
     (λ c κs.
     let asked = c.before.before.before.before in
-    other-taken _ _ _ _ asked.before.before.before.requires asked.before.before.if1.false refl _ c.before.before.before.is-part.ensures _ c.before.before.if4.false c.before.part_of.ensures)
+    other-taken _ _ _ _ asked.before.before.before.requires asked.before.before.if1.false refl _ c.before.before.before.is_part.ensures _ c.before.before.if4.false c.before.part_of.ensures)
     (λ c. search rules))

@@ -7,8 +7,8 @@ use Rattle.refusals.proofs.due.taken.Tie as tie
 
 ruleset laws = (rules, taken-deep, top_within, height-within)
 
-pub taken-spec : {M : Type 1} → statement M
-taken-spec =
+pub taken_spec : {M : Type 1} → statement M
+taken_spec =
     tie.close
     (tie.spec
     (λ c. search rules)

@@ -6,8 +6,8 @@ use Rattle.refusals.proofs.due.type_step.Tie as tie
 
 ruleset laws = (rules, bit-taken, bit-fault, part-typed)
 
-pub type-step-spec : {M : Type 1} → statement M
-type-step-spec =
+pub type_step_spec : {M : Type 1} → statement M
+type_step_spec =
     tie.close
     (tie.spec
     (λ c. search laws)

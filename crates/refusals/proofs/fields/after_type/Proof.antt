@@ -6,8 +6,8 @@ use Rattle.refusals.proofs.fields.after_type.Tie as tie
 
 ruleset laws = (rules, bits-after, none_after)
 
-pub after-type-spec : {M : Type 1} → statement M
-after-type-spec =
+pub after_type_spec : {M : Type 1} → statement M
+after_type_spec =
     tie.close
     (tie.spec
     (λ c. search laws)

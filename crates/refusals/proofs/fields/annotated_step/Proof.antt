@@ -6,8 +6,8 @@ use Rattle.refusals.proofs.fields.annotated_step.Tie as tie
 
 ruleset laws = (rules, annotation-taken, argument-taken, argument-fault, type-follows)
 
-pub annotated-step-spec : {M : Type 1} → statement M
-annotated-step-spec =
+pub annotated_step_spec : {M : Type 1} → statement M
+annotated_step_spec =
     tie.close
     (tie.spec
     (λ c. search laws)

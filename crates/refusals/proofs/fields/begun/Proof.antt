@@ -6,8 +6,8 @@ use Rattle.refusals.proofs.fields.begun.Tie as tie
 
 ruleset laws = (rules, field-begun, other-begun)
 
-pub begun-spec : {M : Type 1} → statement M
-begun-spec =
+pub begun_spec : {M : Type 1} → statement M
+begun_spec =
     tie.close
     (tie.spec
     (λ c. search laws)

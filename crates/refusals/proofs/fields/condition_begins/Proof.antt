@@ -6,8 +6,8 @@ use Rattle.refusals.proofs.fields.condition_begins.Tie as tie
 
 ruleset laws = (rules, begins-sound, condition-begun)
 
-pub condition-begins-spec : {M : Type 1} → statement M
-condition-begins-spec =
+pub condition_begins_spec : {M : Type 1} → statement M
+condition_begins_spec =
     tie.close
     (tie.spec
     (λ c. search laws)

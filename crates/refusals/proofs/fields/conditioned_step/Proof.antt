@@ -6,8 +6,8 @@ use Rattle.refusals.proofs.fields.conditioned_step.Tie as tie
 
 ruleset laws = (rules, conditioned-moved)
 
-pub conditioned-step-spec : {M : Type 1} → statement M
-conditioned-step-spec =
+pub conditioned_step_spec : {M : Type 1} → statement M
+conditioned_step_spec =
     tie.close
     (tie.spec
     (λ c κs. search laws)

@@ -7,8 +7,8 @@ use Rattle.refusals.proofs.fields.field_list_step.Tie as tie
 
 ruleset laws = (rules, item-begins, item-fault, item-goes-on, sound_none)
 
-pub field-list-step-spec : {M : Type 1} → statement M
-field-list-step-spec =
+pub field_list_step_spec : {M : Type 1} → statement M
+field_list_step_spec =
     tie.close
     (tie.spec
     (λ c κs. search laws)

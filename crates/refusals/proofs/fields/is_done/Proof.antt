@@ -6,8 +6,8 @@ use Rattle.refusals.proofs.fields.is_done.Tie as tie
 
 ruleset laws = (rules, done-typed, done-bits, done-conditioned)
 
-pub is-done-spec : {M : Type 1} → statement M
-is-done-spec =
+pub is_done_spec : {M : Type 1} → statement M
+is_done_spec =
     tie.close
     (tie.spec
     (λ c. search laws)

@@ -6,8 +6,8 @@ use Rattle.refusals.proofs.fields.moved.Tie as tie
 
 ruleset laws = (rules, moved_on, moved-fault)
 
-pub moved-spec : {M : Type 1} → statement M
-moved-spec =
+pub moved_spec : {M : Type 1} → statement M
+moved_spec =
     tie.close
     (tie.spec
     (λ c. search laws)

@@ -6,8 +6,8 @@ use Rattle.refusals.proofs.fields.type_begins.Tie as tie
 
 ruleset laws = (rules, begins-sound, type-begun)
 
-pub type-begins-spec : {M : Type 1} → statement M
-type-begins-spec =
+pub type_begins_spec : {M : Type 1} → statement M
+type_begins_spec =
     tie.close
     (tie.spec
     (λ c. search laws)

@@ -7,8 +7,8 @@ use Rattle.refusals.proofs.fields.type_or_condition.Tie as tie
 
 ruleset laws = (rules, bit-goes-on, condition-follows, type-goes-on, sound_none)
 
-pub type-or-condition-spec : {M : Type 1} → statement M
-type-or-condition-spec =
+pub type_or_condition_spec : {M : Type 1} → statement M
+type_or_condition_spec =
     tie.close
     (tie.spec
     (λ c κs. search laws)

@@ -6,13 +6,13 @@ use Rattle.refusals.proofs.fields.typed_step.Tie as tie
 
 ruleset laws = (rules, typed-moved)
 
-pub typed-step-spec : {M : Type 1} → statement M
-typed-step-spec =
+pub typed_step_spec : {M : Type 1} → statement M
+typed_step_spec =
     tie.close
     (tie.spec
     (λ c κs. search laws)
     (λ c κs. search laws)
     (λ c κs. search laws)
     (λ c.
-    typed-moved c.before.before.before.before.args.kind _ c.before.before.type-step.result c.moved.result _ _
-    c.before.after-type.ensures c.before.before.type-step.ensures c.moved.ensures))
+    typed-moved c.before.before.before.before.args.kind _ c.before.before.type_step.result c.moved.result _ _
+    c.before.after_type.ensures c.before.before.type_step.ensures c.moved.ensures))

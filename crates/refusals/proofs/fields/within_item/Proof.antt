@@ -7,8 +7,8 @@ use Rattle.refusals.proofs.fields.within_item.Tie as tie
 
 ruleset laws = (rules, in_between, in-opened, in-annotated, in-typed, in-bits, in-condition, sound_none)
 
-pub within-item-spec : {M : Type 1} → statement M
-within-item-spec =
+pub within_item_spec : {M : Type 1} → statement M
+within_item_spec =
     tie.close
     (tie.spec
     (λ c. search laws)

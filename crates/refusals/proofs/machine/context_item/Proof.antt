@@ -5,11 +5,11 @@ use Rattle.refusals.proofs.Bodies.{leads-at, newtype-declared, other-declared}
 use Rattle.refusals.proofs.machine.context_item.Statement.{statement}
 use Rattle.refusals.proofs.machine.context_item.Tie as tie
 
-pub context-item-spec : {M : Type 1} → statement M
-context-item-spec =
+pub context_item_spec : {M : Type 1} → statement M
+context_item_spec =
     tie.close
     (tie.spec
     (λ c κs. search rules)
-    (λ c. (c.type-due.ensures.0 ∙ newtype-declared c.before.before.before.args.kind c.before.before.before.args.sub c.before.before.if1.true, c.type-due.ensures.1))
+    (λ c. (c.type_due.ensures.0 ∙ newtype-declared c.before.before.before.args.kind c.before.before.before.args.sub c.before.before.if1.true, c.type_due.ensures.1))
     (λ c κs. search rules)
     (λ c. leads-at c.between.result _ _ _ _ (other-declared c.before.before.args.kind c.before.before.args.sub c.before.if1.false) c.before.before.requires c.between.ensures))

@@ -5,15 +5,15 @@ use Rattle.refusals.proofs.Bodies.{context-item-taken, context-item-fault, head-
 use Rattle.refusals.proofs.machine.context_step.Statement.{statement}
 use Rattle.refusals.proofs.machine.context_step.Tie as tie
 
-pub context-step-spec : {M : Type 1} → statement M
-context-step-spec =
+pub context_step_spec : {M : Type 1} → statement M
+context_step_spec =
     tie.close
     (tie.spec
     (λ c κs. search rules)
-    (λ c. (c.context-item.ensures.0 ∙ context-item-taken _ _ _ _ _ c.before.before.before.if1.true c.before.before.if2.true, c.context-item.ensures.1))
+    (λ c. (c.context_item.ensures.0 ∙ context-item-taken _ _ _ _ _ c.before.before.before.if1.true c.before.before.if2.true, c.context_item.ensures.1))
     (λ c. (context-item-fault _ _ _ _ _ c.before.if1.true c.if2.false, tt))
     (λ c κs. search rules)
     (λ c. (c.opened.ensures.0 ∙ head-taken _ _ _ _ _ c.before.before.before.before.if1.false c.before.before.before.if3.true c.before.before.if4.true, c.opened.ensures.1))
     (λ c. (head-fault _ _ _ _ _ c.before.before.if1.false c.before.if3.true c.if4.false, tt))
     (λ c κs. search rules)
-    (λ c. (c.inner-step.ensures.0 ∙ context-type _ _ _ _ _ c.before.before.before.if1.false c.before.before.if3.false, c.inner-step.ensures.1)))
+    (λ c. (c.inner_step.ensures.0 ∙ context-type _ _ _ _ _ c.before.before.before.if1.false c.before.before.if3.false, c.inner_step.ensures.1)))

@@ -4,11 +4,11 @@ use Rattle.refusals.proofs.Bodies.{leads-on, fault-leads, flags-begin, flags-fau
 use Rattle.refusals.proofs.machine.flags_step.Statement.{statement}
 use Rattle.refusals.proofs.machine.flags_step.Tie as tie
 
-pub flags-step-spec : {M : Type 1} → statement M
-flags-step-spec =
+pub flags_step_spec : {M : Type 1} → statement M
+flags_step_spec =
     tie.close
     (tie.spec
     (λ c κs. search rules)
     (λ c κs. search rules)
-    (λ c. leads-on c.between.result _ _ (flags-begin _ _ c.before.before.starts-item.ensures c.before.if1.true) c.between.ensures)
-    (λ c. fault-leads _ (flags-fault _ _ c.before.starts-item.ensures c.if1.false)))
+    (λ c. leads-on c.between.result _ _ (flags-begin _ _ c.before.before.starts_item.ensures c.before.if1.true) c.between.ensures)
+    (λ c. fault-leads _ (flags-fault _ _ c.before.starts_item.ensures c.if1.false)))

@@ -4,8 +4,8 @@ use Rattle.refusals.proofs.Bodies.{variant_fields}
 use Rattle.refusals.proofs.machine.in_fields.Statement.{statement}
 use Rattle.refusals.proofs.machine.in_fields.Tie as tie
 
-pub in-fields-spec : {M : Type 1} → statement M
-in-fields-spec =
+pub in_fields_spec : {M : Type 1} → statement M
+in_fields_spec =
     tie.close
     (tie.spec
     (λ c. search rules)
@@ -23,5 +23,5 @@ in-fields-spec =
     (λ c. search rules)
     (λ c. search rules)
     (λ c. search rules)
-    (λ c. variant_fields _ _ _ c.before.enum-told7.given.1 c.starts-item.ensures)
+    (λ c. variant_fields _ _ _ c.before.enum-told7.given.1 c.starts_item.ensures)
     (λ c. search rules))

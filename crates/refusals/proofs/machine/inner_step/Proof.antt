@@ -4,12 +4,12 @@ use Rattle.refusals.proofs.Bodies.{inner-stepped}
 use Rattle.refusals.proofs.machine.inner_step.Statement.{statement}
 use Rattle.refusals.proofs.machine.inner_step.Tie as tie
 
-pub inner-step-spec : {M : Type 1} → statement M
-inner-step-spec =
+pub inner_step_spec : {M : Type 1} → statement M
+inner_step_spec =
     tie.close
     (tie.spec
     (λ c κs. search rules)
     (λ c κs. search rules)
     (λ c κs. search rules)
     (λ c κs. search rules)
-    (λ c. inner-stepped _ c.before.before.before.before.before.args.kind _ c.before.before.before.before.before.args.item _ c.before.type-step.result c.settled.result _ _ c.before.before.before.before.is-bits.ensures c.before.before.before.after-type.ensures c.before.type-step.ensures c.settled.ensures))
+    (λ c. inner-stepped _ c.before.before.before.before.before.args.kind _ c.before.before.before.before.before.args.item _ c.before.type_step.result c.settled.result _ _ c.before.before.before.before.is_bits.ensures c.before.before.before.after_type.ensures c.before.type_step.ensures c.settled.ensures))

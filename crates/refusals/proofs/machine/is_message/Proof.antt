@@ -4,8 +4,8 @@ use mathlib.Core.Bool.{false≢true}
 use Rattle.refusals.proofs.machine.is_message.Statement.{statement}
 use Rattle.refusals.proofs.machine.is_message.Tie as tie
 
-pub is-message-spec : {M : Type 1} → statement M
-is-message-spec =
+pub is_message_spec : {M : Type 1} → statement M
+is_message_spec =
     tie.close
     (tie.spec
     (λ c. search rules)

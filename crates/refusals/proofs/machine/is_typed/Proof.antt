@@ -4,8 +4,8 @@ use mathlib.Core.Bool.{false≢true}
 use Rattle.refusals.proofs.machine.is_typed.Statement.{statement}
 use Rattle.refusals.proofs.machine.is_typed.Tie as tie
 
-pub is-typed-spec : {M : Type 1} → statement M
-is-typed-spec =
+pub is_typed_spec : {M : Type 1} → statement M
+is_typed_spec =
     tie.close
     (tie.spec
     (λ c. search rules)

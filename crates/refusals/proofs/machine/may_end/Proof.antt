@@ -4,8 +4,8 @@ use Rattle.refusals.proofs.Bodies.{context-ends, message-ends, unbacked-ends, ba
 use Rattle.refusals.proofs.machine.may_end.Statement.{statement}
 use Rattle.refusals.proofs.machine.may_end.Tie as tie
 
-pub may-end-spec : {M : Type 1} → statement M
-may-end-spec =
+pub may_end_spec : {M : Type 1} → statement M
+may_end_spec =
     tie.close
     (tie.spec
     (λ c. search rules)
@@ -19,7 +19,7 @@ may-end-spec =
     (λ c κs. search rules)
     (λ c. search rules)
     (λ c. λ stack. context-ends _ stack 0 0 c.enum_told.given.1)
-    (λ c. λ stack. message-ends _ stack 0 0 _ c.before.enum-told2.given.1 c.is-done.ensures)
+    (λ c. λ stack. message-ends _ stack 0 0 _ c.before.enum-told2.given.1 c.is_done.ensures)
     (λ c. λ stack. unbacked-ends _ stack 0 0 c.enum-told3.given.1)
     (λ c. λ stack. backed-ends _ stack 0 0 c.enum-told4.given.1)
     (λ c. λ stack. flags-end _ stack 0 0 c.enum-told5.given.1)

@@ -5,8 +5,8 @@ use Rattle.refusals.proofs.Bodies.{leads-at, opens-message, opens-enum, opens-fl
 use Rattle.refusals.proofs.machine.opened.Statement.{statement}
 use Rattle.refusals.proofs.machine.opened.Tie as tie
 
-pub opened-spec : {M : Type 1} → statement M
-opened-spec =
+pub opened_spec : {M : Type 1} → statement M
+opened_spec =
     tie.close
     (tie.spec
     (λ c κs. search rules)
@@ -18,4 +18,4 @@ opened-spec =
     (λ c κs. search rules)
     (λ c. leads-at c.between4.result _ _ _ _ (opens-union _ c.before.if4.true) c.before.before.before.before.before.requires c.between4.ensures)
     (λ c κs. search rules)
-    (λ c. (c.type-due.ensures.0 ∙ opens-newtype _ c.before.before.before.before.before.if1.false c.before.before.before.before.if2.false c.before.before.before.if3.false c.before.before.if4.false, c.type-due.ensures.1)))
+    (λ c. (c.type_due.ensures.0 ∙ opens-newtype _ c.before.before.before.before.before.if1.false c.before.before.before.before.if2.false c.before.before.before.if3.false c.before.before.if4.false, c.type_due.ensures.1)))

@@ -4,11 +4,11 @@ use Rattle.refusals.proofs.Bodies.{leads-on, fault-leads, outside-begins, outsid
 use Rattle.refusals.proofs.machine.outside_step.Statement.{statement}
 use Rattle.refusals.proofs.machine.outside_step.Tie as tie
 
-pub outside-step-spec : {M : Type 1} → statement M
-outside-step-spec =
+pub outside_step_spec : {M : Type 1} → statement M
+outside_step_spec =
     tie.close
     (tie.spec
     (λ c κs. search rules)
     (λ c κs. search rules)
-    (λ c. leads-on c.union-item.result _ _ (outside-begins _ _ c.before.before.starts-item.ensures c.before.if1.true) c.union-item.ensures)
-    (λ c. fault-leads _ (outside-fault _ _ c.before.starts-item.ensures c.if1.false)))
+    (λ c. leads-on c.union_item.result _ _ (outside-begins _ _ c.before.before.starts_item.ensures c.before.if1.true) c.union_item.ensures)
+    (λ c. fault-leads _ (outside-fault _ _ c.before.starts_item.ensures c.if1.false)))

@@ -4,8 +4,8 @@ use Rattle.refusals.proofs.Bodies.{settled_on, settled-fault}
 use Rattle.refusals.proofs.machine.settled.Statement.{statement}
 use Rattle.refusals.proofs.machine.settled.Tie as tie
 
-pub settled-spec : {M : Type 1} → statement M
-settled-spec =
+pub settled_spec : {M : Type 1} → statement M
+settled_spec =
     tie.close
     (tie.spec
     (λ c. search rules)

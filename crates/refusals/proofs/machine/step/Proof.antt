@@ -16,16 +16,16 @@ step_spec =
     (λ c.
     let next = c.before.before.before in
     let asked = next.before.before in
-    type-stepped asked.before.args.s _ _ _ (asked.type-goes-on.ensures next.before.if1.true) _ c.before.type-step.result c.settled.result _
-    next.after-type.ensures c.before.type-step.ensures c.settled.ensures)
+    type-stepped asked.before.args.s _ _ _ (asked.type_goes_on.ensures next.before.if1.true) _ c.before.type_step.result c.settled.result _
+    next.after_type.ensures c.before.type_step.ensures c.settled.ensures)
     (λ c κs. search rules)
     (λ c κs. search rules)
     (λ c κs. search rules)
     (λ c.
     let asked = c.before.before.before.before in
-    fields-stepped asked.before.before.before.args.s _ _ _ c.before.field-list-step.result c.within-body.result _
-    (sym asked.in-fields.ensures ∙ c.before.before.before.if2.true) c.before.field-list-step.ensures c.within-body.ensures)
+    fields-stepped asked.before.before.before.args.s _ _ _ c.before.field_list_step.result c.within_body.result _
+    (sym asked.in_fields.ensures ∙ c.before.before.before.if2.true) c.before.field_list_step.ensures c.within_body.ensures)
     (λ c κs.
     let asked = c.before.before in
-    (asked.before.before.before.requires, sym asked.in-fields.ensures ∙ c.before.if2.false))
+    (asked.before.before.before.requires, sym asked.in_fields.ensures ∙ c.before.if2.false))
     (λ c. search rules))

@@ -4,8 +4,8 @@ use Rattle.refusals.proofs.Bodies.{due-stepped}
 use Rattle.refusals.proofs.machine.type_due.Statement.{statement}
 use Rattle.refusals.proofs.machine.type_due.Tie as tie
 
-pub type-due-spec : {M : Type 1} → statement M
-type-due-spec =
+pub type_due_spec : {M : Type 1} → statement M
+type_due_spec =
     tie.close
     (tie.spec
     (λ c. search rules)

@@ -4,8 +4,8 @@ use Rattle.refusals.proofs.Bodies.{goes_on}
 use Rattle.refusals.proofs.machine.type_goes_on.Statement.{statement}
 use Rattle.refusals.proofs.machine.type_goes_on.Tie as tie
 
-pub type-goes-on-spec : {M : Type 1} → statement M
-type-goes-on-spec =
+pub type_goes_on_spec : {M : Type 1} → statement M
+type_goes_on_spec =
     tie.close
     (tie.spec
     (λ c κs. search rules)
@@ -13,4 +13,4 @@ type-goes-on-spec =
     (λ c κs. search rules)
     (λ c.
     let start = c.before.before.before in
-    goes_on start.args.body start.args.item _ _ _ _ _ c.before.before.is-message.ensures c.before.is-typed.ensures c.is-type.ensures))
+    goes_on start.args.body start.args.item _ _ _ _ _ c.before.before.is_message.ensures c.before.is_typed.ensures c.is_type.ensures))

@@ -4,8 +4,8 @@ use Rattle.refusals.proofs.Bodies.{leads-on, union-variant, union-tombstone}
 use Rattle.refusals.proofs.machine.union_item.Statement.{statement}
 use Rattle.refusals.proofs.machine.union_item.Tie as tie
 
-pub union-item-spec : {M : Type 1} → statement M
-union-item-spec =
+pub union_item_spec : {M : Type 1} → statement M
+union_item_spec =
     tie.close
     (tie.spec
     (λ c κs. search rules)

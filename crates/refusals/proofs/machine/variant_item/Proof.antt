@@ -5,15 +5,15 @@ use Rattle.refusals.proofs.Bodies.{leads-at, variant-begins, variant-fault}
 use Rattle.refusals.proofs.machine.variant_item.Statement.{statement}
 use Rattle.refusals.proofs.machine.variant_item.Tie as tie
 
-pub variant-item-spec : {M : Type 1} → statement M
-variant-item-spec =
+pub variant_item_spec : {M : Type 1} → statement M
+variant_item_spec =
     tie.close
     (tie.spec
     (λ c κs. search rules)
     (λ c κs. search rules)
     (λ c.
     let asked = c.before.before in
-    λ stack s. leads-at c.union-item.result _ _ stack _ (variant-begins _ _ refl asked.before.requires asked.before.args.item stack _ _ asked.is-done.ensures c.before.if1.true) s c.union-item.ensures)
+    λ stack s. leads-at c.union_item.result _ _ stack _ (variant-begins _ _ refl asked.before.requires asked.before.args.item stack _ _ asked.is_done.ensures c.before.if1.true) s c.union_item.ensures)
     (λ c.
     let asked = c.before in
-    λ stack s. (variant-fault _ _ refl asked.before.requires asked.before.args.item stack _ _ asked.is-done.ensures c.if1.false, tt)))
+    λ stack s. (variant-fault _ _ refl asked.before.requires asked.before.args.item stack _ _ asked.is_done.ensures c.if1.false, tt)))

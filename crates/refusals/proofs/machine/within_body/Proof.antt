@@ -4,8 +4,8 @@ use Rattle.refusals.proofs.Bodies.{taken-on, taken-fault}
 use Rattle.refusals.proofs.machine.within_body.Statement.{statement}
 use Rattle.refusals.proofs.machine.within_body.Tie as tie
 
-pub within-body-spec : {M : Type 1} → statement M
-within-body-spec =
+pub within_body_spec : {M : Type 1} → statement M
+within_body_spec =
     tie.close
     (tie.spec
     (λ c. search rules)

@@ -4,8 +4,8 @@ use Rattle.refusals.proofs.OwnFaults.{cut-named, name-fits}
 use Rattle.refusals.proofs.own.is_cut.Statement.{statement}
 use Rattle.refusals.proofs.own.is_cut.Tie as tie
 
-pub is-cut-spec : {M : Type 1} → statement M
-is-cut-spec =
+pub is_cut_spec : {M : Type 1} → statement M
+is_cut_spec =
     tie.close
     (tie.spec
     (λ c κs. search rules)
@@ -14,5 +14,5 @@ is-cut-spec =
     (λ c κs. search rules)
     (λ c.
     let asked = c.before.before.before in
-    cut-named _ _ _ asked.before.name-end.ensures _ _ _ asked.if1.true c.before.before.kind.ensures c.before.byte.ensures c.is-named.ensures)
-    (λ c. name-fits _ _ _ c.before.name-end.ensures c.if1.false))
+    cut-named _ _ _ asked.before.name_end.ensures _ _ _ asked.if1.true c.before.before.kind.ensures c.before.byte.ensures c.is_named.ensures)
+    (λ c. name-fits _ _ _ c.before.name_end.ensures c.if1.false))

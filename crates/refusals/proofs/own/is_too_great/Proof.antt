@@ -4,8 +4,8 @@ use Rattle.refusals.proofs.OwnFaults.{great-read, small-read}
 use Rattle.refusals.proofs.own.is_too_great.Statement.{statement}
 use Rattle.refusals.proofs.own.is_too_great.Tie as tie
 
-pub is-too-great-spec : {M : Type 1} → statement M
-is-too-great-spec =
+pub is_too_great_spec : {M : Type 1} → statement M
+is_too_great_spec =
     tie.close
     (tie.spec
     (λ c κs. search rules)
@@ -13,5 +13,5 @@ is-too-great-spec =
     (λ c κs. search rules)
     (λ c.
     let asked = c.before.before in
-    great-read _ _ asked.before.value.ensures _ _ asked.if1.true c.before.kind.ensures c.has-ordinal.ensures)
+    great-read _ _ asked.before.value.ensures _ _ asked.if1.true c.before.kind.ensures c.has_ordinal.ensures)
     (λ c. small-read _ _ c.before.value.ensures c.if1.false))

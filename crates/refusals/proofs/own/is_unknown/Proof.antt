@@ -6,8 +6,8 @@ use Rattle.refusals.proofs.own.is_unknown.Tie as tie
 
 ruleset laws = (rules, unknown-read)
 
-pub is-unknown-spec : {M : Type 1} → statement M
-is-unknown-spec =
+pub is_unknown_spec : {M : Type 1} → statement M
+is_unknown_spec =
     tie.close
     (tie.spec
     (λ c κs. search rules)
@@ -15,4 +15,4 @@ is-unknown-spec =
     (λ c κs. search rules)
     (λ c. search rules)
     (λ c κs. search rules)
-    (λ c. unknown-read _ _ _ _ _ c.before.before.before.kind.ensures c.before.before.byte.ensures (search rules) c.before.sub-limit.ensures c.is-clean.ensures))
+    (λ c. unknown-read _ _ _ _ _ c.before.before.before.kind.ensures c.before.before.byte.ensures (search rules) c.before.sub_limit.ensures c.is_clean.ensures))

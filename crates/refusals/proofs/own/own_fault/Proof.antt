@@ -4,8 +4,8 @@ use Rattle.refusals.proofs.OwnFaults.{own-unknown, own-cut, own-great, own-none}
 use Rattle.refusals.proofs.own.own_fault.Statement.{statement}
 use Rattle.refusals.proofs.own.own_fault.Tie as tie
 
-pub own-fault-spec : {M : Type 1} → statement M
-own-fault-spec =
+pub own_fault_spec : {M : Type 1} → statement M
+own_fault_spec =
     tie.close
     (tie.spec
     (λ c κs. search rules)

@@ -23,9 +23,9 @@ at_rest = last_arm sub_limit 0 keys tt
 
 ruleset laws = (rules, at_key)
 
-pub sub-limit-spec : {M : Type 1} → statement M
+pub sub_limit_spec : {M : Type 1} → statement M
 unfolding look_up
-sub-limit-spec =
+sub_limit_spec =
     tie.close
     (tie.spec
     (λ c. search laws)

@@ -23,8 +23,8 @@ invariant-loop sheet names table due₀ n s₀ i₀ end₀ due s i end =
 abbrev decreases-loop : tie.decreases-loop
 decreases-loop sheet names table due₀ n s₀ i₀ end₀ due s i end = n - i
 
-pub first-fault-spec : {M : Type 1} → statement M
-first-fault-spec =
+pub first_fault_spec : {M : Type 1} → statement M
+first_fault_spec =
     tie.close
     (tie.spec
     invariant-loop
@@ -40,7 +40,7 @@ first-fault-spec =
     (λ c.
     let turn = c.before.before.before.before.before in
     let loop = turn.before.loop in
-    let step = c.before.before.before.record-step in (
+    let step = c.before.before.before.record_step in (
       pass-fault _ _ _ _ _ _ loop.invariant.3 _ (count-below _ _ _ loop.invariant.0 turn.loop-test.true)
           (fault-found step.result _ _ step.ensures _ c.before.why.given.1),
       tt,
@@ -52,34 +52,34 @@ first-fault-spec =
     (λ c. omega arith)
     (λ c κs.
     let told = c.before.before in
-    let step = told.before.before.before.record-step in
+    let step = told.before.before.before.record_step in
     let loop = told.before.before.before.before.before.before.loop in
     (sound-found step.result _ _ step.ensures _ _ _ told.before.body.given.1, omega arith, loop.invariant.0))
-    (λ c. omega (arith, c.run-end.ensures.least))
+    (λ c. omega (arith, c.run_end.ensures.least))
     (λ c.
     let told = c.before.before.before in
     let turn = told.before.before.before.before.before in
     let loop = turn.before.loop in
-    let step = told.before.before.before.record-step in
-    let ran = c.run-end.ensures in (
+    let step = told.before.before.before.record_step in
+    let ran = c.run_end.ensures in (
       loop.invariant.0,
       omega (arith, ran.most),
       ran.sound,
       ran.same _ ∙ pass-again _ _ _ _ _ _ loop.invariant.3 _ (count-below _ _ _ loop.invariant.0 turn.loop-test.true)
           (state-found step.result _ _ step.ensures _ _ _ told.before.body.given.1),
-      ran.ended _ c.before.before.newtypes-end.ensures,
+      ran.ended _ c.before.before.newtypes_end.ensures,
     ))
     (λ c κs. search rules)
     (λ c.
     let loop = c.before.before.before.loop in (
       pass-done _ _ _ _ _ _ loop.invariant.3 _ (count-reached _ _ _ loop.invariant.0 c.before.before.loop-test.false)
-          (c.before.may-end.ensures loop.due) c.if1.true,
+          (c.before.may_end.ensures loop.due) c.if1.true,
       ends-all _ _ _ _ loop.invariant.4 loop.invariant.0 loop.invariant.1 c.before.before.loop-test.false,
     ))
     (λ c. omega arith)
     (λ c.
     let loop = c.before.before.before.loop in (
       pass-early _ _ _ _ _ _ loop.invariant.3 _ _ (count-reached _ _ _ loop.invariant.0 c.before.before.loop-test.false) loop.invariant.1 loop.invariant.0
-          (c.before.may-end.ensures loop.due) c.if1.false,
+          (c.before.may_end.ensures loop.due) c.if1.false,
       tt,
     )))

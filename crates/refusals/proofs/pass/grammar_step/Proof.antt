@@ -5,8 +5,8 @@ use Rattle.refusals.proofs.Passes.{grammar-stepped}
 use Rattle.refusals.proofs.pass.grammar_step.Statement.{statement}
 use Rattle.refusals.proofs.pass.grammar_step.Tie as tie
 
-pub grammar-step-spec : {M : Type 1} → statement M
-grammar-step-spec =
+pub grammar_step_spec : {M : Type 1} → statement M
+grammar_step_spec =
     tie.close
     (tie.spec
     (λ c κs. search rules)

@@ -4,8 +4,8 @@ use Rattle.refusals.proofs.Passes.{second-read}
 use Rattle.refusals.proofs.pass.is_second.Statement.{statement}
 use Rattle.refusals.proofs.pass.is_second.Tie as tie
 
-pub is-second-spec : {M : Type 1} → statement M
-is-second-spec =
+pub is_second_spec : {M : Type 1} → statement M
+is_second_spec =
     tie.close
     (tie.spec
     (λ c κs. search rules)

@@ -4,8 +4,8 @@ use Rattle.refusals.proofs.Passes.{ends-here, other-kind-ends, other-sub-ends}
 use Rattle.refusals.proofs.pass.newtypes_end.Statement.{statement}
 use Rattle.refusals.proofs.pass.newtypes_end.Tie as tie
 
-pub newtypes-end-spec : {M : Type 1} → statement M
-newtypes-end-spec =
+pub newtypes_end_spec : {M : Type 1} → statement M
+newtypes_end_spec =
     tie.close
     (tie.spec
     (λ c κs. search rules)

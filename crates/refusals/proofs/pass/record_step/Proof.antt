@@ -4,13 +4,13 @@ use Rattle.refusals.proofs.Passes.{own_first, grammar-then}
 use Rattle.refusals.proofs.pass.record_step.Statement.{statement}
 use Rattle.refusals.proofs.pass.record_step.Tie as tie
 
-pub record-step-spec : {M : Type 1} → statement M
-record-step-spec =
+pub record_step_spec : {M : Type 1} → statement M
+record_step_spec =
     tie.close
     (tie.spec
     (λ c κs. search rules)
     (λ c. search rules)
     (λ c. search rules)
     (λ c κs. search rules)
-    (λ c. (own_first _ _ _ _ c.before.before.before.own-fault.result c.before.before.before.own-fault.ensures _ c.before.why.given.1, tt))
-    (λ c. (grammar-then _ _ _ _ c.before.before.before.before.own-fault.result c.before.before.before.before.own-fault.ensures _ c.before.before.enum_told.given.1 c.grammar-step.ensures.0, c.grammar-step.ensures.1)))
+    (λ c. (own_first _ _ _ _ c.before.before.before.own_fault.result c.before.before.before.own_fault.ensures _ c.before.why.given.1, tt))
+    (λ c. (grammar-then _ _ _ _ c.before.before.before.before.own_fault.result c.before.before.before.before.own_fault.ensures _ c.before.before.enum_told.given.1 c.grammar_step.ensures.0, c.grammar_step.ensures.1)))

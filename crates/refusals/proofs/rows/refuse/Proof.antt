@@ -7,8 +7,8 @@ use Rattle.refusals.proofs.RefusalFilled.{passed-lasting}
 use Rattle.refusals.proofs.rows.refuse.Statement.{statement}
 use Rattle.refusals.proofs.rows.refuse.Tie as tie
 
-pub refuse-spec : {M : Type 1} → statement M
-refuse-spec =
+pub refuse_spec : {M : Type 1} → statement M
+refuse_spec =
     tie.close
     (tie.spec
     (λ c. (row-1 _ _ _ c.if1.true, same-itself _))
@@ -21,17 +21,17 @@ refuse-spec =
     let short = passed.before.before.before in
     let end = c.before.before.end.given.1 in (
       short-sheet short.before.before.before.args.sheet.now short.if1.false,
-      ended-found passed.first-fault.result _ _ passed.first-fault.ensures.1 end,
-      passed-lasting _ _ _ short.before.before.before.requires short.if1.false passed.first-fault.result passed.first-fault.ensures.0 _ end,
+      ended-found passed.first_fault.result _ _ passed.first_fault.ensures.1 end,
+      passed-lasting _ _ _ short.before.before.before.requires short.if1.false passed.first_fault.result passed.first_fault.ensures.0 _ end,
     ))
     (λ c.
     let passed = c.before.before.before in
     let asked = passed.before.before in
-    (rows-3-to-8 _ _ _ asked.before.if1.false asked.if2.false passed.first-fault.result passed.first-fault.ensures.0 _ _ c.before.refusal.given.1, same-itself _))
+    (rows-3-to-8 _ _ _ asked.before.if1.false asked.if2.false passed.first_fault.result passed.first_fault.ensures.0 _ _ c.before.refusal.given.1, same-itself _))
     (λ c.
     let passed = c.before.before.before.before.before in
     let asked = passed.before.before in (
-      row-9 _ _ _ asked.before.if1.false asked.if2.false passed.first-fault.result passed.first-fault.ensures.0 _ _ c.before.before.before.end.given.1
+      row-9 _ _ _ asked.before.if1.false asked.if2.false passed.first_fault.result passed.first_fault.ensures.0 _ _ c.before.before.before.end.given.1
           c.endless.ensures.0,
       c.endless.ensures.1,
     )))

@@ -6,8 +6,8 @@ use Rattle.refusals.proofs.runs.context_end.Tie as tie
 
 ruleset laws = (rules, ran-none)
 
-pub context-end-spec : {M : Type 1} → statement M
-context-end-spec =
+pub context_end_spec : {M : Type 1} → statement M
+context_end_spec =
     tie.close
     (tie.spec
     (λ c. λ stack sound. search laws)

@@ -6,8 +6,8 @@ use Rattle.refusals.proofs.runs.message_end.Tie as tie
 
 ruleset laws = (rules, ran-none)
 
-pub message-end-spec : {M : Type 1} → statement M
-message-end-spec =
+pub message_end_spec : {M : Type 1} → statement M
+message_end_spec =
     tie.close
     (tie.spec
     (λ c. search rules)
@@ -21,7 +21,7 @@ message-end-spec =
     (λ c. search laws)
     (λ c. search laws)
     (λ c. search laws)
-    (λ c. rw c.before.before.enum-told4.given.1 c.nests-end.ensures)
+    (λ c. rw c.before.before.enum-told4.given.1 c.nests_end.ensures)
     (λ c.
     let start = c.before.before.before.before.before in
     ran_bits _ _ _ _ _ _ _ _ start.requires.0 start.requires.2 c.before.enum-told5.given.1 c.plain_end.ensures)

@@ -9,8 +9,8 @@ use Rattle.refusals.proofs.runs.nests_end.Tie as tie
 
 ruleset laws = (rules, ran-none)
 
-pub nests-end-spec : {M : Type 1} → statement M
-nests-end-spec =
+pub nests_end_spec : {M : Type 1} → statement M
+nests_end_spec =
     tie.close
     (tie.spec
     (λ c. search laws)

@@ -14,8 +14,8 @@ invariant-loop sheet names run i n j₀ j = (i ≤ j) × (j ≤ n) × ((k : ℕ)
 abbrev decreases-loop : tie.decreases-loop
 decreases-loop sheet names run i n j₀ j = n - j
 
-pub plain-end-spec : {M : Type 1} → statement M
-plain-end-spec =
+pub plain_end_spec : {M : Type 1} → statement M
+plain_end_spec =
     tie.close
     (tie.spec
     invariant-loop

@@ -6,8 +6,8 @@ use Rattle.refusals.proofs.runs.run_end.Tie as tie
 
 ruleset laws = (rules, ran-none)
 
-pub run-end-spec : {M : Type 1} → statement M
-run-end-spec =
+pub run_end_spec : {M : Type 1} → statement M
+run_end_spec =
     tie.close
     (tie.spec
     (λ c. search rules)
@@ -20,8 +20,8 @@ run-end-spec =
     (λ c. search rules)
     (λ c. search rules)
     (λ c. search rules)
-    (λ c. ran-at _ _ _ _ _ _ _ _ c.before.enum_told.given.1 (c.context-end.ensures _ c.before.before.before.before.before.requires.0))
-    (λ c. ran-at _ _ _ _ _ _ _ _ c.before.before.enum-told2.given.1 c.message-end.ensures)
+    (λ c. ran-at _ _ _ _ _ _ _ _ c.before.enum_told.given.1 (c.context_end.ensures _ c.before.before.before.before.before.requires.0))
+    (λ c. ran-at _ _ _ _ _ _ _ _ c.before.before.enum-told2.given.1 c.message_end.ensures)
     (λ c. search laws)
     (λ c. search laws)
     (λ c. search laws)

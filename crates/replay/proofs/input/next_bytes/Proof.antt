@@ -4,8 +4,8 @@ use Rattle.replay.proofs.Part.{cut}
 use Rattle.replay.proofs.input.next_bytes.Statement.{statement}
 use Rattle.replay.proofs.input.next_bytes.Tie as tie
 
-pub next-bytes-spec : {M : Type 1} → statement M
-next-bytes-spec =
+pub next_bytes_spec : {M : Type 1} → statement M
+next_bytes_spec =
     tie.close
     (tie.spec
     (λ c. search rules)

@@ -9,8 +9,8 @@ invariant-loop numbers i₀ t3 t4 i = i ≤ 10
 abbrev decreases-loop : tie.decreases-loop
 decreases-loop numbers i₀ t3 t4 i = 10 - i
 
-pub refusals-spec : {M : Type 1} → statement M
-refusals-spec =
+pub refusals_spec : {M : Type 1} → statement M
+refusals_spec =
     tie.close
     (tie.spec
     invariant-loop

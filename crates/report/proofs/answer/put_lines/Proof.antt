@@ -4,8 +4,8 @@ use Rattle.report.proofs.Answers.{refused-lines, accepted-lines}
 use Rattle.report.proofs.answer.put_lines.Statement.{statement}
 use Rattle.report.proofs.answer.put_lines.Tie as tie
 
-pub put-lines-spec : {M : Type 1} → statement M
-put-lines-spec =
+pub put_lines_spec : {M : Type 1} → statement M
+put_lines_spec =
     tie.close
     (tie.spec
     (λ c. search rules)

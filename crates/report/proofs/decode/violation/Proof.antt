@@ -4,8 +4,8 @@ use Rattle.report.proofs.Decoded.{violation-read}
 use Rattle.report.proofs.decode.violation.Statement.{statement}
 use Rattle.report.proofs.decode.violation.Tie as tie
 
-pub violation-spec : {M : Type 1} → statement M
-violation-spec =
+pub violation_spec : {M : Type 1} → statement M
+violation_spec =
     tie.close
     (tie.spec
     (λ c κs. search rules)

@@ -4,8 +4,8 @@ use Rattle.report.proofs.Decoded.{word_read}
 use Rattle.report.proofs.decode.word.Statement.{statement}
 use Rattle.report.proofs.decode.word.Tie as tie
 
-pub word-spec : {M : Type 1} → statement M
-word-spec =
+pub word_spec : {M : Type 1} → statement M
+word_spec =
     tie.close
     (tie.spec
     (λ c κs. search rules)

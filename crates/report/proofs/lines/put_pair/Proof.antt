@@ -4,8 +4,8 @@ use Rattle.report.proofs.LineTexts.{pair_line_lem}
 use Rattle.report.proofs.lines.put_pair.Statement.{statement}
 use Rattle.report.proofs.lines.put_pair.Tie as tie
 
-pub put-pair-spec : {M : Type 1} → statement M
-put-pair-spec =
+pub put_pair_spec : {M : Type 1} → statement M
+put_pair_spec =
     tie.close
     (tie.spec
     (λ c κs. search rules)

@@ -6,8 +6,8 @@ use Rattle.report.proofs.LineTexts.{violation-line}
 use Rattle.report.proofs.lines.put_violation.Statement.{statement}
 use Rattle.report.proofs.lines.put_violation.Tie as tie
 
-pub put-violation-spec : {M : Type 1} → statement M
-put-violation-spec =
+pub put_violation_spec : {M : Type 1} → statement M
+put_violation_spec =
     tie.close
     (tie.spec
     (λ c. search rules)

@@ -20,8 +20,8 @@ invariant-loop out₀ list n at₀ i₀ out at i =
 abbrev decreases-loop : tie.decreases-loop
 decreases-loop out₀ list n at₀ i₀ out at i = n - i
 
-pub put-violations-spec : {M : Type 1} → statement M
-put-violations-spec =
+pub put_violations_spec : {M : Type 1} → statement M
+put_violations_spec =
     tie.close
     (tie.spec
     invariant-loop

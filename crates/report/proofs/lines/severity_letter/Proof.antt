@@ -3,7 +3,7 @@ use Rattle.report.proofs.LineTexts.{letter-error, letter-other}
 use Rattle.report.proofs.lines.severity_letter.Statement.{statement}
 use Rattle.report.proofs.lines.severity_letter.Tie as tie
 
-pub severity-letter-spec : {M : Type 1} → statement M
-severity-letter-spec = tie.close (tie.spec
+pub severity_letter_spec : {M : Type 1} → statement M
+severity_letter_spec = tie.close (tie.spec
     (λ c. search letter-error)
     (λ c. search letter-other))

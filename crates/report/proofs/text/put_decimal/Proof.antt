@@ -13,8 +13,8 @@ invariant-loop out at x digits₀ i₀ rest₀ digits i rest = Writing x digits 
 abbrev decreases-loop : tie.decreases-loop
 decreases-loop out at x digits₀ i₀ rest₀ digits i rest = rest
 
-pub put-decimal-spec : {M : Type 1} → statement M
-put-decimal-spec =
+pub put_decimal_spec : {M : Type 1} → statement M
+put_decimal_spec =
     tie.close
     (tie.spec
     invariant-loop

@@ -4,8 +4,8 @@ use Rattle.report.proofs.LineTexts.{number-and-byte}
 use Rattle.report.proofs.text.put_number.Statement.{statement}
 use Rattle.report.proofs.text.put_number.Tie as tie
 
-pub put-number-spec : {M : Type 1} → statement M
-put-number-spec =
+pub put_number_spec : {M : Type 1} → statement M
+put_number_spec =
     tie.close (tie.spec
     (λ c κs. search rules)
     (λ c. search rules)

@@ -16,8 +16,8 @@ invariant-loop out₀ at text i₀ out i =
 abbrev decreases-loop : tie.decreases-loop
 decreases-loop out₀ at text i₀ out i = length text - i
 
-pub put-text-spec : {M : Type 1} → statement M
-put-text-spec =
+pub put_text_spec : {M : Type 1} → statement M
+put_text_spec =
     tie.close
     (tie.spec
     invariant-loop

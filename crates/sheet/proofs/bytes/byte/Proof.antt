@@ -4,5 +4,5 @@ use Rattle.sheet.proofs.Numbers.{past-read}
 use Rattle.sheet.proofs.bytes.byte.Statement.{statement}
 use Rattle.sheet.proofs.bytes.byte.Tie as tie
 
-pub byte-spec : {M : Type 1} → statement M
-byte-spec = tie.close (tie.spec (λ c. search rules) (λ c. search rules) (λ c. search past-read))
+pub byte_spec : {M : Type 1} → statement M
+byte_spec = tie.close (tie.spec (λ c. search rules) (λ c. search rules) (λ c. search past-read))

@@ -6,8 +6,8 @@ use Rattle.sheet.proofs.bytes.long.Tie as tie
 
 ruleset laws = (rules, long-read)
 
-pub long-spec : {M : Type 1} → statement M
-long-spec =
+pub long_spec : {M : Type 1} → statement M
+long_spec =
     tie.close
     (tie.spec
     (λ c κs. search rules)

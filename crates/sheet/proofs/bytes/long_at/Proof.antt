@@ -3,8 +3,8 @@ use borrow.Author.Rules.{rules}
 use Rattle.sheet.proofs.bytes.long_at.Statement.{statement}
 use Rattle.sheet.proofs.bytes.long_at.Tie as tie
 
-pub long-at-spec : {M : Type 1} → statement M
-long-at-spec = tie.close (tie.spec
+pub long_at_spec : {M : Type 1} → statement M
+long_at_spec = tie.close (tie.spec
     (λ c κs. search rules)
     (λ c κs. search rules)
     (λ c. cc))

@@ -6,8 +6,8 @@ use Rattle.sheet.proofs.bytes.record.Tie as tie
 
 ruleset laws = (rules, whole-record, last-part, no_part)
 
-pub record-spec : {M : Type 1} → statement M
-record-spec =
+pub record_spec : {M : Type 1} → statement M
+record_spec =
     tie.close
     (tie.spec
     (λ c. search laws)

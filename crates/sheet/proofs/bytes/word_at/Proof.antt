@@ -3,8 +3,8 @@ use borrow.Author.Rules.{rules}
 use Rattle.sheet.proofs.bytes.word_at.Statement.{statement}
 use Rattle.sheet.proofs.bytes.word_at.Tie as tie
 
-pub word-at-spec : {M : Type 1} → statement M
-word-at-spec = tie.close (tie.spec
+pub word_at_spec : {M : Type 1} → statement M
+word_at_spec = tie.close (tie.spec
     (λ c κs. search rules)
     (λ c κs. search rules)
     (λ c. cc))

@@ -5,18 +5,18 @@ use Rattle.sheet.proofs.Marks.{ends-continue}
 use Rattle.sheet.proofs.field_name.continue_by.Statement.{statement}
 use Rattle.sheet.proofs.field_name.continue_by.Tie as tie
 
-pub continue-by-spec : {M : Type 1} → statement M
-continue-by-spec =
+pub continue_by_spec : {M : Type 1} → statement M
+continue_by_spec =
     tie.close
     (tie.spec
     (λ c κs. search rules)
     (λ c. search rules)
     (λ c κs. search rules)
     (λ c κs. search rules)
-    (λ c. ends-continue _ _ 4 _ _ (omega arith) (omega arith) c.before.four-continue.ensures c.four-continue2.ensures)
+    (λ c. ends-continue _ _ 4 _ _ (omega arith) (omega arith) c.before.four_continue.ensures c.four-continue2.ensures)
     (λ c κs. search rules)
     (λ c. search rules)
     (λ c κs. search rules)
-    (λ c. ends-continue _ _ 8 _ _ (omega arith) (omega arith) c.before.eight-continue.ensures c.eight-continue2.ensures)
+    (λ c. ends-continue _ _ 8 _ _ (omega arith) (omega arith) c.before.eight_continue.ensures c.eight-continue2.ensures)
     (λ c κs. search rules)
     (λ c. search rules))

@@ -4,6 +4,6 @@ use Rattle.sheet.specs.Mark.{continues_by}
 use Rattle.sheet.proofs.field_name.continues_by.Statement.{statement}
 use Rattle.sheet.proofs.field_name.continues_by.Tie as tie
 
-pub continues-by-spec : {M : Type 1} → statement M
+pub continues_by_spec : {M : Type 1} → statement M
 unfolding continues_by
-continues-by-spec = tie.close (tie.spec (λ c. search rules) (λ c. search rules))
+continues_by_spec = tie.close (tie.spec (λ c. search rules) (λ c. search rules))

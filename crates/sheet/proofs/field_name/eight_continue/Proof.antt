@@ -6,8 +6,8 @@ use Rattle.sheet.proofs.field_name.eight_continue.Tie as tie
 
 ruleset laws = (rules, eight-pass)
 
-pub eight-continue-spec : {M : Type 1} → statement M
-eight-continue-spec =
+pub eight_continue_spec : {M : Type 1} → statement M
+eight_continue_spec =
     tie.close (tie.spec
     (λ c κs. search laws)
     (λ c. search laws)

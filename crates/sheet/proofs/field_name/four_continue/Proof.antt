@@ -6,8 +6,8 @@ use Rattle.sheet.proofs.field_name.four_continue.Tie as tie
 
 ruleset laws = (rules, four-pass)
 
-pub four-continue-spec : {M : Type 1} → statement M
-four-continue-spec =
+pub four_continue_spec : {M : Type 1} → statement M
+four_continue_spec =
     tie.close
     (tie.spec
     (λ c. search laws)

@@ -10,19 +10,19 @@ use Rattle.sheet.proofs.Windows.{none-fails, one_more, one-more-in-front}
 use Rattle.sheet.proofs.field_name.halves_continue.Statement.{statement}
 use Rattle.sheet.proofs.field_name.halves_continue.Tie as tie
 
-abbrev invariant-loop : tie.invariant-loop
+abbrev invariant-loop : tie.invariant-loop-k
 invariant-loop marks text half n front₀ back₀ k₀ front back k =
     (k ≤ n)
     × (front ≡ passes (λ i. continues_by marks (get_or text i 0)) 0 k)
     × (back ≡ passes (λ i. continues_by marks (get_or text i 0)) half k)
 
-abbrev decreases-loop : tie.decreases-loop
+abbrev decreases-loop : tie.decreases-loop-k
 decreases-loop marks text half n front₀ back₀ k₀ front back k = n - k
 
 ruleset laws = (rules, none-fails, one_more, one-more-in-front, halves-continue)
 
-pub halves-continue-spec : {M : Type 1} → statement M
-halves-continue-spec =
+pub halves_continue_spec : {M : Type 1} → statement M
+halves_continue_spec =
     tie.close
     (tie.spec
     invariant-loop

@@ -7,8 +7,8 @@ use Rattle.sheet.proofs.field_name.is_valid_by.Tie as tie
 
 ruleset laws = (rules, not-true, not-false, no_name, bad-start, good_start)
 
-pub is-valid-by-spec : {M : Type 1} → statement M
-is-valid-by-spec =
+pub is_valid_by_spec : {M : Type 1} → statement M
+is_valid_by_spec =
     tie.close
     (tie.spec
     (λ c. search laws)

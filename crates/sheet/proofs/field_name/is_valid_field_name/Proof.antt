@@ -6,6 +6,6 @@ use Rattle.sheet.proofs.field_name.is_valid_field_name.Tie as tie
 
 ruleset laws = (rules, valid-by)
 
-pub is-valid-field-name-spec : {M : Type 1} → statement M
-is-valid-field-name-spec =
+pub is_valid_field_name_spec : {M : Type 1} → statement M
+is_valid_field_name_spec =
     tie.close (tie.spec (λ c κs. search laws) (λ c κs. search laws) (λ c. search laws))

@@ -5,6 +5,6 @@ use Rattle.sheet.proofs.Marks.{marks_bytes, has-marks}
 use Rattle.sheet.proofs.field_name.name_marks.Statement.{statement}
 use Rattle.sheet.proofs.field_name.name_marks.Tie as tie
 
-pub name-marks-spec : {M : Type 1} → statement M
+pub name_marks_spec : {M : Type 1} → statement M
 unfolding marks_bytes passes_below name_mark
-name-marks-spec = tie.close (tie.spec (λ c. has-marks _ tt))
+name_marks_spec = tie.close (tie.spec (λ c. has-marks _ tt))

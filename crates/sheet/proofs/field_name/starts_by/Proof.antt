@@ -4,6 +4,6 @@ use Rattle.sheet.specs.Mark.{starts_by}
 use Rattle.sheet.proofs.field_name.starts_by.Statement.{statement}
 use Rattle.sheet.proofs.field_name.starts_by.Tie as tie
 
-pub starts-by-spec : {M : Type 1} → statement M
+pub starts_by_spec : {M : Type 1} → statement M
 unfolding starts_by
-starts-by-spec = tie.close (tie.spec (λ c. search rules) (λ c. search rules))
+starts_by_spec = tie.close (tie.spec (λ c. search rules) (λ c. search rules))

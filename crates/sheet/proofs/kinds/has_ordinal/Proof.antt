@@ -4,6 +4,6 @@ use Rattle.rules.specs.Words.{any_of}
 use Rattle.sheet.proofs.kinds.has_ordinal.Statement.{statement}
 use Rattle.sheet.proofs.kinds.has_ordinal.Tie as tie
 
-pub has-ordinal-spec : {M : Type 1} → statement M
+pub has_ordinal_spec : {M : Type 1} → statement M
 unfolding any_of
-has-ordinal-spec = tie.close (tie.spec (λ c. simp (or_assoc, or-false)))
+has_ordinal_spec = tie.close (tie.spec (λ c. simp (or_assoc, or-false)))

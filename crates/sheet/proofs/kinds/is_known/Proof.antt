@@ -3,5 +3,5 @@ use borrow.Author.Rules.{rules}
 use Rattle.sheet.proofs.kinds.is_known.Statement.{statement}
 use Rattle.sheet.proofs.kinds.is_known.Tie as tie
 
-pub is-known-spec : {M : Type 1} → statement M
-is-known-spec = tie.close (tie.spec (λ c κs. search rules) (λ c κs. search rules) (λ c. cc))
+pub is_known_spec : {M : Type 1} → statement M
+is_known_spec = tie.close (tie.spec (λ c κs. search rules) (λ c κs. search rules) (λ c. cc))

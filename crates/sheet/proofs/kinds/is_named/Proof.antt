@@ -4,6 +4,6 @@ use Rattle.rules.specs.Words.{any_of}
 use Rattle.sheet.proofs.kinds.is_named.Statement.{statement}
 use Rattle.sheet.proofs.kinds.is_named.Tie as tie
 
-pub is-named-spec : {M : Type 1} → statement M
+pub is_named_spec : {M : Type 1} → statement M
 unfolding any_of
-is-named-spec = tie.close (tie.spec (λ c. simp (or_assoc, or-false)))
+is_named_spec = tie.close (tie.spec (λ c. simp (or_assoc, or-false)))

@@ -23,9 +23,9 @@ at_rest = last_arm (λ k. length (Kind.parts_of k)) 0 keys tt
 
 ruleset laws = (rules, at_key)
 
-pub part-count-spec : {M : Type 1} → statement M
+pub part_count_spec : {M : Type 1} → statement M
 unfolding Kind.parts_of
-part-count-spec =
+part_count_spec =
     tie.close
     (tie.spec
     (λ c. search laws)
@@ -48,4 +48,4 @@ part-count-spec =
     (λ c. search laws)
     (λ c. search laws)
     (λ c. search laws)
-    (λ c. at_rest _ (search rules) c.match.rest))
+    (λ c. at_rest c.args.kind (search rules) (search rules)))

@@ -22,9 +22,9 @@ at_rest = last_arm Kind.sub_count 0 keys tt
 
 ruleset laws = (rules, at_key)
 
-pub sub-count-spec : {M : Type 1} → statement M
+pub sub_count_spec : {M : Type 1} → statement M
 unfolding look_up
-sub-count-spec =
+sub_count_spec =
     tie.close
     (tie.spec
     (λ c. search laws)
@@ -38,4 +38,4 @@ sub-count-spec =
     (λ c. search laws)
     (λ c. search laws)
     (λ c. search laws)
-    (λ c. at_rest _ (search rules) c.match.rest))
+    (λ c. at_rest c.args.kind (search rules) (search rules)))

@@ -6,8 +6,8 @@ use Rattle.sheet.proofs.names.fits.Tie as tie
 
 ruleset laws = (rules, fits-named, fits-unnamed)
 
-pub fits-spec : {M : Type 1} → statement M
-fits-spec =
+pub fits_spec : {M : Type 1} → statement M
+fits_spec =
     tie.close
     (tie.spec
     (λ c κs. search rules)

@@ -4,8 +4,8 @@ use Rattle.sheet.proofs.Fields.{other-named}
 use Rattle.sheet.proofs.names.has_name.Statement.{statement}
 use Rattle.sheet.proofs.names.has_name.Tie as tie
 
-pub has-name-spec : {M : Type 1} → statement M
-has-name-spec = tie.close (tie.spec
+pub has_name_spec : {M : Type 1} → statement M
+has_name_spec = tie.close (tie.spec
     (λ c κs. search rules)
     (λ c κs. search rules)
     (λ c κs. search rules)

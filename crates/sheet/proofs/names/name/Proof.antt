@@ -6,8 +6,8 @@ use Rattle.sheet.proofs.names.name.Tie as tie
 
 ruleset laws = (rules, name-within, name-beyond, name-unnamed)
 
-pub name-spec : {M : Type 1} → statement M
-name-spec =
+pub name_spec : {M : Type 1} → statement M
+name_spec =
     tie.close
     (tie.spec
     (λ c κs. search rules)

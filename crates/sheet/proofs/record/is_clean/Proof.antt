@@ -3,7 +3,7 @@ use borrow.Author.Rules.{rules}
 use Rattle.sheet.proofs.record.is_clean.Statement.{statement}
 use Rattle.sheet.proofs.record.is_clean.Tie as tie
 
-pub is-clean-spec : {M : Type 1} → statement M
-is-clean-spec = tie.close (tie.spec
+pub is_clean_spec : {M : Type 1} → statement M
+is_clean_spec = tie.close (tie.spec
     (λ c κs. search rules)
     (λ c. cc))

@@ -6,8 +6,8 @@ use Rattle.sheet.proofs.record.ordinal_span.Tie as tie
 
 ruleset laws = (rules, ordinal-span-read, ordinal-span-none)
 
-pub ordinal-span-spec : {M : Type 1} → statement M
-ordinal-span-spec =
+pub ordinal_span_spec : {M : Type 1} → statement M
+ordinal_span_spec =
     tie.close
     (tie.spec
     (λ c κs. search rules)

@@ -3,8 +3,8 @@ use borrow.Author.Rules.{rules}
 use Rattle.sheet.proofs.record.span.Statement.{statement}
 use Rattle.sheet.proofs.record.span.Tie as tie
 
-pub span-spec : {M : Type 1} → statement M
-span-spec = tie.close (tie.spec
+pub span_spec : {M : Type 1} → statement M
+span_spec = tie.close (tie.spec
     (λ c κs. search rules)
     (λ c κs. search rules)
     (λ c κs. search rules)

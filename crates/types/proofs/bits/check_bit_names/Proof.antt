@@ -24,8 +24,8 @@ decreases-loop sheet table list₀ counts₀ span a e i₀ list counts i = e - i
 
 ruleset laws = (rules, bit-next, bit-over, bit-end)
 
-pub check-bit-names-spec : {M : Type 1} → statement M
-check-bit-names-spec =
+pub check_bit_names_spec : {M : Type 1} → statement M
+check_bit_names_spec =
     tie.close
     (tie.spec
     invariant-loop
@@ -45,7 +45,7 @@ check-bit-names-spec =
     let at = turn.before.before.before in (
       search rules,
       bit-next _ _ _ _ _ _ _ _ _ _ _ at.before.loop.invariant.1 at.loop-test.true turn.before.before.kind.ensures turn.before.if1.false
-          turn.is-valid-field-name.ensures told.error.ensures c.before.before.push-if.ensures,
+          turn.is_valid_field_name.ensures told.error.ensures c.before.before.push_if.ensures,
     ))
     (λ c. search laws)
     (λ c. search laws))

@@ -6,8 +6,8 @@ use Rattle.types.proofs.bits.check_bits.Tie as tie
 
 ruleset laws = (rules, bits-told, rule-11)
 
-pub check-bits-spec : {M : Type 1} → statement M
-check-bits-spec =
+pub check_bits_spec : {M : Type 1} → statement M
+check_bits_spec =
     tie.close
     (tie.spec
     (λ c κs. search rules)

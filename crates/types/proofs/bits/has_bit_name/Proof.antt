@@ -5,9 +5,9 @@ use Rattle.types.proofs.Views.{view-cons, view-none}
 use Rattle.types.proofs.bits.has_bit_name.Statement.{statement}
 use Rattle.types.proofs.bits.has_bit_name.Tie as tie
 
-pub has-bit-name-spec : {M : Type 1} → statement M
+pub has_bit_name_spec : {M : Type 1} → statement M
 unfolding view_at
-has-bit-name-spec =
+has_bit_name_spec =
     tie.close
     (tie.spec
     (λ c. rw (view-none _ _ _ c.if1.true))

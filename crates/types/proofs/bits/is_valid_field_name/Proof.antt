@@ -6,7 +6,7 @@ use Rattle.types.proofs.bits.is_valid_field_name.Tie as tie
 
 ruleset laws = (rules, valid-read)
 
-pub is-valid-field-name-spec : {M : Type 1} → statement M
-is-valid-field-name-spec = tie.close (tie.spec
+pub is_valid_field_name_spec : {M : Type 1} → statement M
+is_valid_field_name_spec = tie.close (tie.spec
     (λ c κs. search rules)
     (λ c. search laws))

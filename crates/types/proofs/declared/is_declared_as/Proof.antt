@@ -6,8 +6,8 @@ use Rattle.types.proofs.declared.is_declared_as.Tie as tie
 
 ruleset laws = (rules, declared-never, declared-with)
 
-pub is-declared-as-spec : {M : Type 1} → statement M
-is-declared-as-spec =
+pub is_declared_as_spec : {M : Type 1} → statement M
+is_declared_as_spec =
     tie.close (tie.spec
     (λ c κs. search rules)
     (λ c. search laws)

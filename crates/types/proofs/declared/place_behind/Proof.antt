@@ -6,8 +6,8 @@ use Rattle.types.proofs.declared.place_behind.Tie as tie
 
 ruleset laws = (rules, behind-other, behind-undeclared, behind-declared)
 
-pub place-behind-spec : {M : Type 1} → statement M
-place-behind-spec =
+pub place_behind_spec : {M : Type 1} → statement M
+place_behind_spec =
     tie.close
     (tie.spec
     (λ c κs. search rules)

@@ -7,8 +7,8 @@ use Rattle.types.proofs.errors.error_if.Tie as tie
 
 ruleset laws = (rules, error-told, pushed-good)
 
-pub error-if-spec : {M : Type 1} → statement M
-error-if-spec =
+pub error_if_spec : {M : Type 1} → statement M
+error_if_spec =
     tie.close
     (tie.spec
     (λ c κs. search rules)

@@ -6,8 +6,8 @@ use Rattle.types.proofs.field_type.check_due_type.Tie as tie
 
 ruleset laws = (rules, turn-skipped, turn-none, turn-plain, turn-checked)
 
-pub check-due-type-spec : {M : Type 1} → statement M
-check-due-type-spec =
+pub check_due_type_spec : {M : Type 1} → statement M
+check_due_type_spec =
     tie.close
     (tie.spec
     (λ c. search laws)

@@ -6,8 +6,8 @@ use Rattle.types.proofs.field_type.check_field_type.Tie as tie
 
 ruleset laws = (rules, type-none, type-plain, type-named)
 
-pub check-field-type-spec : {M : Type 1} → statement M
-check-field-type-spec =
+pub check_field_type_spec : {M : Type 1} → statement M
+check_field_type_spec =
     tie.close
     (tie.spec
     (λ c. search laws)

@@ -23,8 +23,8 @@ decreases-loop sheet table list₀ counts₀ a e due₀ i₀ list counts due i =
 
 ruleset laws = (rules, types-start, types-passed, types-next, types-done, types-last, types-end, no-bit)
 
-pub check-types-spec : {M : Type 1} → statement M
-check-types-spec =
+pub check_types_spec : {M : Type 1} → statement M
+check_types_spec =
     tie.close
     (tie.spec
     invariant-loop

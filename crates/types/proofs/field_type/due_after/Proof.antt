@@ -6,8 +6,8 @@ use Rattle.types.proofs.field_type.due_after.Tie as tie
 
 ruleset laws = (rules, due-skipped, due-none, due-map, due-generic, due-checked)
 
-pub due-after-spec : {M : Type 1} → statement M
-due-after-spec =
+pub due_after_spec : {M : Type 1} → statement M
+due_after_spec =
     tie.close
     (tie.spec
     (λ c κs. search rules)

@@ -6,8 +6,8 @@ use Rattle.types.proofs.field_type.is_passed.Tie as tie
 
 ruleset laws = (rules, plain-read, fixed-read, other-read)
 
-pub is-passed-spec : {M : Type 1} → statement M
-is-passed-spec =
+pub is_passed_spec : {M : Type 1} → statement M
+is_passed_spec =
     tie.close
     (tie.spec
     (λ c. search laws)

@@ -6,8 +6,8 @@ use Rattle.types.proofs.field_type.parts_of.Tie as tie
 
 ruleset laws = (rules, few-parts)
 
-pub parts-of-spec : {M : Type 1} → statement M
-parts-of-spec = tie.close (tie.spec
+pub parts_of_spec : {M : Type 1} → statement M
+parts_of_spec = tie.close (tie.spec
     (λ c κs. search rules)
     (λ c. search laws)
     (λ c. search laws))

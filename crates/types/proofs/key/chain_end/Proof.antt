@@ -15,8 +15,8 @@ decreases-loop sheet table i at₀ left₀ at left = left
 
 ruleset laws = (rules, chain-start, chain_next, chain-over, chain-out)
 
-pub chain-end-spec : {M : Type 1} → statement M
-chain-end-spec =
+pub chain_end_spec : {M : Type 1} → statement M
+chain_end_spec =
     tie.close
     (tie.spec
     invariant-loop

@@ -4,8 +4,8 @@ use Rattle.types.proofs.Keys.{no_key, rule-8}
 use Rattle.types.proofs.key.check_map_key_type.Statement.{statement}
 use Rattle.types.proofs.key.check_map_key_type.Tie as tie
 
-pub check-map-key-type-spec : {M : Type 1} → statement M
-check-map-key-type-spec =
+pub check_map_key_type_spec : {M : Type 1} → statement M
+check_map_key_type_spec =
     tie.close
     (tie.spec
     (λ c. search no_key)

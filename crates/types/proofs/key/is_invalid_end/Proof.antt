@@ -6,8 +6,8 @@ use Rattle.types.proofs.key.is_invalid_end.Tie as tie
 
 ruleset laws = (rules, named_end, other-end)
 
-pub is-invalid-end-spec : {M : Type 1} → statement M
-is-invalid-end-spec =
+pub is_invalid_end_spec : {M : Type 1} → statement M
+is_invalid_end_spec =
     tie.close (tie.spec
     (λ c κs. search rules)
     (λ c κs. search rules)

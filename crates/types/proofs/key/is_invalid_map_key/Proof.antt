@@ -4,8 +4,8 @@ use Rattle.types.proofs.Keys.{key-end}
 use Rattle.types.proofs.key.is_invalid_map_key.Statement.{statement}
 use Rattle.types.proofs.key.is_invalid_map_key.Tie as tie
 
-pub is-invalid-map-key-spec : {M : Type 1} → statement M
-is-invalid-map-key-spec =
+pub is_invalid_map_key_spec : {M : Type 1} → statement M
+is_invalid_map_key_spec =
     tie.close (tie.spec
     (λ c κs. search rules)
     (λ c κs. search rules)

@@ -3,11 +3,11 @@ use borrow.Author.Rules.{rules}
 use Rattle.types.proofs.key.is_without_key.Statement.{statement}
 use Rattle.types.proofs.key.is_without_key.Tie as tie
 
-pub is-without-key-spec : {M : Type 1} → statement M
-is-without-key-spec =
+pub is_without_key_spec : {M : Type 1} → statement M
+is_without_key_spec =
     tie.close
     (tie.spec
     (λ c κs. search rules)
     (λ c κs. search rules)
     (λ c κs. search rules)
-    (λ c. rw (← c.before.before.is-declared-as.ensures, ← c.before.is-declared-as2.ensures, ← c.is-declared-as3.ensures)))
+    (λ c. rw (← c.before.before.is_declared_as.ensures, ← c.before.is-declared-as2.ensures, ← c.is-declared-as3.ensures)))

@@ -11,8 +11,8 @@ invariant-loop sheet a e i₀ i = Passed sheet a e i
 abbrev decreases-loop : tie.decreases-loop
 decreases-loop sheet a e i₀ i = e - i
 
-pub behind-optionals-spec : {M : Type 1} → statement M
-behind-optionals-spec =
+pub behind_optionals_spec : {M : Type 1} → statement M
+behind_optionals_spec =
     tie.close
     (tie.spec
     invariant-loop

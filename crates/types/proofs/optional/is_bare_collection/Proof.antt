@@ -5,9 +5,9 @@ use Rattle.types.proofs.Views.{view-cons, view-none}
 use Rattle.types.proofs.optional.is_bare_collection.Statement.{statement}
 use Rattle.types.proofs.optional.is_bare_collection.Tie as tie
 
-pub is-bare-collection-spec : {M : Type 1} → statement M
+pub is_bare_collection_spec : {M : Type 1} → statement M
 unfolding view_at
-is-bare-collection-spec =
+is_bare_collection_spec =
     tie.close
     (tie.spec
     (λ c. rw (view-none _ _ _ c.if1.true))

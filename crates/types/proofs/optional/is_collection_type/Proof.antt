@@ -3,10 +3,10 @@ use borrow.Author.Rules.{rules}
 use Rattle.types.proofs.optional.is_collection_type.Statement.{statement}
 use Rattle.types.proofs.optional.is_collection_type.Tie as tie
 
-pub is-collection-type-spec : {M : Type 1} → statement M
-is-collection-type-spec =
+pub is_collection_type_spec : {M : Type 1} → statement M
+is_collection_type_spec =
     tie.close
     (tie.spec
     (λ c κs. search rules)
     (λ c κs. search rules)
-    (λ c. rw c.before.behind-optionals.ensures at c.is-bare-collection.ensures))
+    (λ c. rw c.before.behind_optionals.ensures at c.is_bare_collection.ensures))

@@ -6,8 +6,8 @@ use Rattle.types.proofs.own.check_content.Tie as tie
 
 ruleset laws = (rules, rules-11-12, rule-9, no-content)
 
-pub check-content-spec : {M : Type 1} → statement M
-check-content-spec =
+pub check_content_spec : {M : Type 1} → statement M
+check_content_spec =
     tie.close
     (tie.spec
     (λ c κs. search rules)

@@ -6,8 +6,8 @@ use Rattle.types.proofs.own.check_element.Tie as tie
 
 ruleset laws = (rules, no-element, rule-10)
 
-pub check-element-spec : {M : Type 1} → statement M
-check-element-spec =
+pub check_element_spec : {M : Type 1} → statement M
+check_element_spec =
     tie.close
     (tie.spec
     (λ c. search laws)

@@ -6,8 +6,8 @@ use Rattle.types.proofs.own.check_named.Tie as tie
 
 ruleset laws = (rules, rules-6-7)
 
-pub check-named-spec : {M : Type 1} → statement M
-check-named-spec =
+pub check_named_spec : {M : Type 1} → statement M
+check_named_spec =
     tie.close
     (tie.spec
     (λ c κs. search rules)

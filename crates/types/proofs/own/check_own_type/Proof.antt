@@ -6,8 +6,8 @@ use Rattle.types.proofs.own.check_own_type.Tie as tie
 
 ruleset laws = (rules, at_named, at-keyed, at-geometric, at-content)
 
-pub check-own-type-spec : {M : Type 1} → statement M
-check-own-type-spec =
+pub check_own_type_spec : {M : Type 1} → statement M
+check_own_type_spec =
     tie.close
     (tie.spec
     (λ c κs. search rules)

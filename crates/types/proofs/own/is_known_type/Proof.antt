@@ -6,8 +6,8 @@ use Rattle.types.proofs.own.is_known_type.Tie as tie
 
 ruleset laws = (rules, known_read)
 
-pub is-known-type-spec : {M : Type 1} → statement M
-is-known-type-spec =
+pub is_known_type_spec : {M : Type 1} → statement M
+is_known_type_spec =
     tie.close (tie.spec
     (λ c κs. search rules)
     (λ c κs. search rules)

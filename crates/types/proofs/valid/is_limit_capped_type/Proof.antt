@@ -19,8 +19,8 @@ capped :
 unfolding view_at
 capped sheet a e k valid h v read = rw (v, read, view-cons sheet a e h)
 
-pub is-limit-capped-type-spec : {M : Type 1} → statement M
-is-limit-capped-type-spec =
+pub is_limit_capped_type_spec : {M : Type 1} → statement M
+is_limit_capped_type_spec =
     tie.close
     (tie.spec
     (λ c. rw (view-none _ _ _ c.if1.true))

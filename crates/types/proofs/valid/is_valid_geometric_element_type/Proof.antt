@@ -5,9 +5,9 @@ use Rattle.types.proofs.Views.{view-cons, view-none}
 use Rattle.types.proofs.valid.is_valid_geometric_element_type.Statement.{statement}
 use Rattle.types.proofs.valid.is_valid_geometric_element_type.Tie as tie
 
-pub is-valid-geometric-element-type-spec : {M : Type 1} → statement M
+pub is_valid_geometric_element_type_spec : {M : Type 1} → statement M
 unfolding view_at
-is-valid-geometric-element-type-spec =
+is_valid_geometric_element_type_spec =
     tie.close
     (tie.spec
     (λ c. rw (view-none _ _ _ c.if1.true))

@@ -5,9 +5,9 @@ use Rattle.types.proofs.Views.{view-cons, view-none}
 use Rattle.types.proofs.valid.is_zigzag_valid_type.Statement.{statement}
 use Rattle.types.proofs.valid.is_zigzag_valid_type.Tie as tie
 
-pub is-zigzag-valid-type-spec : {M : Type 1} → statement M
+pub is_zigzag_valid_type_spec : {M : Type 1} → statement M
 unfolding view_at
-is-zigzag-valid-type-spec =
+is_zigzag_valid_type_spec =
     tie.close
     (tie.spec
     (λ c. rw (view-none _ _ _ c.if1.true))

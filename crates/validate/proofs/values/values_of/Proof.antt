@@ -6,8 +6,8 @@ use Rattle.validate.proofs.values.values_of.Tie as tie
 
 ruleset laws = (rules, accepted-values, refused-values)
 
-pub values-of-spec : {M : Type 1} → statement M
-values-of-spec =
+pub values_of_spec : {M : Type 1} → statement M
+values_of_spec =
     tie.close (tie.spec
     (λ c. search laws)
     (λ c. search laws)

@@ -6,8 +6,8 @@ use Rattle.validate.proofs.whole.check.Tie as tie
 
 ruleset laws = (rules, refused-answered, accepted-answered)
 
-pub check-spec : {M : Type 1} → statement M
-check-spec =
+pub check_spec : {M : Type 1} → statement M
+check_spec =
     tie.close
     (tie.spec
     (λ c κs. search rules)
