@@ -66,7 +66,7 @@ fn check_condition(
 
 // Where the parts of a field stand: its annotations end where its type starts, and its type where its condition starts. The optionals that its type
 // starts with end at `behind`.
-#[derive(Drop)]
+#[derive(Clone, Copy)]
 pub struct Parts {
     pub type_start: usize,
     pub behind: usize,

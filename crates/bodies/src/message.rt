@@ -75,7 +75,7 @@ fn check_ordinal_and_name(
 }
 
 // The counts after a field, and where its parts end.
-#[derive(Drop)]
+#[derive(Clone, Copy)]
 pub struct Passed {
     pub counts: Counts,
     pub end: usize,

@@ -8,7 +8,7 @@ use crate::errors::error_if;
 use rules::Counts;
 
 // The greatest ordinal of a list, and the classes of one that is over it, of one that a tombstone has, and of one that is met already.
-#[derive(Drop)]
+#[derive(Clone, Copy)]
 pub struct OrdinalRules {
     pub greatest: u64,
     pub too_large: u16,

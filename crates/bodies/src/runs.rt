@@ -13,7 +13,7 @@ use sheet::kinds;
 
 // The records before the head, of a field's annotations, of optionals, of types, of bit names, of an item of a field list after its first, of an item of
 // another body after its first.
-#[derive(Drop)]
+#[derive(Clone, Copy)]
 pub enum Run {
     Front,
     Annotations,

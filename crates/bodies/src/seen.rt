@@ -113,7 +113,7 @@ pub fn collect(
 }
 
 // Whether a tombstone has an ordinal, and whether an item before has it.
-#[derive(Drop)]
+#[derive(Clone, Copy)]
 struct Told {
     tombstoned: bool,
     met: bool,
@@ -147,7 +147,7 @@ fn tell(
 }
 
 // Whether a tombstone has an ordinal, whether an item before has it, and how many numbers are kept with it.
-#[derive(Drop)]
+#[derive(Clone, Copy)]
 pub struct Meeting {
     pub tombstoned: bool,
     pub met: bool,

@@ -16,7 +16,7 @@ const F64: u8 = 10;
 const STRING: u8 = 0;
 
 // Whether a type takes each kind of literal.
-#[derive(Drop)]
+#[derive(Clone, Copy)]
 pub struct Literals {
     pub int: bool,
     pub float: bool,

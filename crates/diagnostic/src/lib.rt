@@ -1,5 +1,6 @@
 // Writing the list of violations and counting them.
 #![tactic(auto)]
+
 mod encode;
 mod list;
 

@@ -11,7 +11,7 @@ use rules::{Refusal, Sheet};
 use sheet::kinds;
 
 // What rows 3 to 5 say of a record.
-#[derive(Drop)]
+#[derive(Clone, Copy)]
 pub enum Own {
     Sound,
     Fault(Refusal),

@@ -71,7 +71,7 @@ fn record_step(
 }
 
 // What the pass finds: the first fault, or where the newtypes end.
-#[derive(Drop)]
+#[derive(Clone, Copy)]
 pub enum Passed {
     Refused { refusal: Refusal, index: u32 },
     Accepted(usize),

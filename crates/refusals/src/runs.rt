@@ -11,7 +11,7 @@ use crate::state::{Body, Item, State};
 use sheet::kinds;
 
 // Imported names; bit names; optionals, arrays, fixed arrays and sets.
-#[derive(Drop)]
+#[derive(Clone, Copy)]
 pub enum Run {
     Imports,
     BitNames,

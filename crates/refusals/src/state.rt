@@ -2,7 +2,7 @@
 use rules::Refusal;
 
 // Which body, and where in it.
-#[derive(Drop)]
+#[derive(Clone, Copy)]
 pub enum Body {
     Context,
     Message,
@@ -15,7 +15,7 @@ pub enum Body {
 }
 
 // Where in a field list. A newtype's inner type is `Typed` or `BitNames` too.
-#[derive(Drop)]
+#[derive(Clone, Copy)]
 pub enum Item {
     // Between the items.
     Between,
@@ -31,7 +31,7 @@ pub enum Item {
 
 // The machine's state: the stack's first `height` entries are due, the last of them first. No part of depth 66 is ever due, and each entry is
 // deeper than the number of those below it, so that 66 entries hold all.
-#[derive(Drop)]
+#[derive(Clone, Copy)]
 pub struct State {
     pub body: Body,
     pub item: Item,
@@ -39,21 +39,21 @@ pub struct State {
 }
 
 // A step: the new height of the stack, or a fault.
-#[derive(Drop)]
+#[derive(Clone, Copy)]
 pub enum PartStep {
     To(usize),
     Fault(Refusal),
 }
 
 // A step in a field list.
-#[derive(Drop)]
+#[derive(Clone, Copy)]
 pub enum ItemStep {
     To { item: Item, height: usize },
     Fault(Refusal),
 }
 
 // A step of the machine.
-#[derive(Drop)]
+#[derive(Clone, Copy)]
 pub enum Step {
     To {
         body: Body,

@@ -1,7 +1,7 @@
 // What is said of a sheet and a names text.
 use rules::Refusal;
 
-#[derive(Drop)]
+#[derive(Clone, Copy)]
 pub enum Verdict {
     Accepted,
     Refused { refusal: Refusal, index: u32 },

@@ -5,7 +5,7 @@ use recorded::VIOLATION;
 use rules::AnswerValues;
 
 // What is found where a number is due.
-#[derive(Drop)]
+#[derive(Clone, Copy)]
 pub enum Number {
     Of(u32),
     // The file ends before it.
@@ -15,14 +15,14 @@ pub enum Number {
 }
 
 // What is found where an answer is due.
-#[derive(Drop)]
+#[derive(Clone, Copy)]
 pub enum Told {
     Answer(AnswerValues),
     Fault,
 }
 
 // A case whose bytes stand in the buffers: the lengths of its three parts, and its answer.
-#[derive(Drop)]
+#[derive(Clone, Copy)]
 pub struct Case {
     pub sheet: usize,
     pub names: usize,
@@ -31,7 +31,7 @@ pub struct Case {
 }
 
 // What is found where a case may begin.
-#[derive(Drop)]
+#[derive(Clone, Copy)]
 pub enum Next {
     Case(Case),
     End,

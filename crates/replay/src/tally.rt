@@ -3,7 +3,7 @@ use recorded::BUFFERS;
 use rules::AnswerValues;
 use std::num::wrapping_add_u64;
 
-#[derive(Drop)]
+#[derive(Clone, Copy)]
 pub struct Tally {
     pub cases: u64,
     // How many have each number: 0 accepted, 1 to 9 refused.

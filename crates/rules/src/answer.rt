@@ -1,7 +1,7 @@
 // What the check answers.
 
 // The nine refusals, in the order of their numbers, 1 to 9.
-#[derive(Drop)]
+#[derive(Clone, Copy)]
 pub enum Refusal {
     SheetLength,
     NamesLength,
@@ -15,13 +15,13 @@ pub enum Refusal {
 }
 
 // What is counted of the full list.
-#[derive(Drop)]
+#[derive(Clone, Copy)]
 pub struct Counts {
     pub total: u32,
     pub errors: u32,
 }
 
-#[derive(Drop)]
+#[derive(Clone, Copy)]
 pub enum Answer {
     Accepted(Counts),
     Refused { refusal: Refusal, index: u32 },
@@ -29,7 +29,7 @@ pub enum Answer {
 
 // An answer as the numbers of document 01. `specs/Answer.antt` gives them for each case of `Answer`.
 #[repr(C)]
-#[derive(Drop)]
+#[derive(Clone, Copy)]
 pub struct AnswerValues {
     pub number: u32,
     pub index: u32,

@@ -1,7 +1,7 @@
 // A sheet and its names text, by their lengths.
 ghost use Rattle.std.specs.Prelude.{◌≡◌, ◌/◌};
 
-#[derive(Drop)]
+#[derive(Clone, Copy)]
 pub struct Sheet {
     pub len: usize,
     pub names_len: usize,

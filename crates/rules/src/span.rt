@@ -1,7 +1,7 @@
 // A part of the source text. Offset and length are copied from a sheet, and never added up.
 ghost use Rattle.std.specs.Prelude.{◌≡◌};
 
-#[derive(Drop)]
+#[derive(Clone, Copy)]
 pub struct Span {
     pub offset: u32,
     pub len: u32,

@@ -3,7 +3,7 @@ ghost use Rattle.std.specs.Prelude.{◌≡◌};
 
 use crate::span::Span;
 
-#[derive(Drop)]
+#[derive(Clone, Copy)]
 pub struct Violation {
     pub class: u16,
     pub severity: u8,

@@ -13,7 +13,7 @@ use rules::Counts;
 use sheet::kinds;
 
 // The types that are due: first those that are skipped, then those that are checked.
-#[derive(Drop)]
+#[derive(Clone, Copy)]
 pub struct Due {
     pub skipped: usize,
     pub checked: usize,

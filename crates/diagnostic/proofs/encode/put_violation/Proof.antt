@@ -16,6 +16,6 @@ put_violation_spec =
     (λ c. search rules)
     (λ c κs. simp length-set (omega arith))
     (λ c. search rules)
-    (λ c κs. omega (arith, simp length-set at c.before.before.before.put32.auto.0))
-    (λ c. omega (arith, simp length-set at c.before.before.before.before.before.before.put32.auto.0))
+    (λ c κs. omega (arith, simp length-set at c.put32.auto.list))
+    (λ c. omega (arith, simp length-set at c.put32.auto.list))
     (λ c. search put-violation-is))

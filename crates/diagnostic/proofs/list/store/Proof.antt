@@ -13,4 +13,4 @@ store_spec =
     (λ c. stored-kept _ _ _ (omega arith))
     (λ c κs. search rules)
     (λ c. search rules)
-    (λ c. stored-put _ _ _ _ (omega arith) c.before.before.put_violation.ensures))
+    (λ c. stored-put _ _ _ _ (omega arith) c.put_violation.ensures))
