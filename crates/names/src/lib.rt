@@ -1,5 +1,6 @@
 // The table of names: what the rules ask of the name of each record, worked out once.
 #![tactic(auto)]
+
 mod asked;
 mod clear;
 mod codes;

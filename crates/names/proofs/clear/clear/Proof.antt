@@ -5,10 +5,10 @@ use Rattle.names.proofs.Cleared.{Cleared, cleared-none, cleared_more, cleared-al
 use Rattle.names.proofs.clear.clear.Statement.{statement}
 use Rattle.names.proofs.clear.clear.Tie as tie
 
-abbrev invariant-loop : tie.invariant-loop
+abbrev invariant-loop : tie.invariant-loop-i
 invariant-loop table₀ i₀ table i = Cleared table i
 
-abbrev decreases-loop : tie.decreases-loop
+abbrev decreases-loop : tie.decreases-loop-i
 decreases-loop table₀ i₀ table i = 5122 - i
 
 pub clear_spec : {M : Type 1} → statement M
@@ -22,6 +22,6 @@ clear_spec =
     (λ c. search rules)
     (λ c. search rules)
     (λ c. search rules)
-    (λ c. cleared_more _ _ c.before.loop.invariant c.loop-test.true)
+    (λ c. cleared_more _ _ c.loop-i.invariant c.loop-i-test.true)
     (λ c. search rules)
-    (λ c. cleared-all _ _ c.before.loop.invariant c.loop-test.false))
+    (λ c. cleared-all _ _ c.loop-i.invariant c.loop-i-test.false))

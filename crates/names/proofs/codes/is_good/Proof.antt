@@ -11,7 +11,7 @@ is_good_spec =
     (λ c. (λ e. cc, search rules))
     (λ c. search rules)
     (λ c.
-    let judged = c.before.before.before.before.requires.1 in
+    let judged = c.requires.1 in
     (known-good _ _ _ _ judged, judged))
     (λ c. search rules)
     (λ c κs. search rules)
@@ -22,10 +22,10 @@ is_good_spec =
     (λ c κs. search rules)
     (λ c. search rules)
     (λ c.
-    let look = c.before.continue_by.ensures in
-    let ended = c.before.before.before in
-    let end = ended.block_end.ensures in
-    let judged = ended.before.before.before.before.before.requires.1 in (
+    let look = c.continue_by-good.ensures in
+    let ended = c in
+    let end = ended.block_end-end.ensures in
+    let judged = ended.requires.1 in (
       looked _ _ _ _ _ look end.0 end.1 end.2 end.3,
-      judged-more _ _ _ _ _ look end.0 end.1 end.2 end.3 _ _ judged c.Known-of.ensures,
+      judged-more _ _ _ _ _ look end.0 end.1 end.2 end.3 _ _ judged c.known_of.ensures,
     )))

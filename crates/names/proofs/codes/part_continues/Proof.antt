@@ -10,12 +10,12 @@ use Rattle.names.proofs.Blocks.{piece-goes-on, piece-stops, pieces-all}
 use Rattle.names.proofs.codes.part_continues.Statement.{statement}
 use Rattle.names.proofs.codes.part_continues.Tie as tie
 
-abbrev invariant-loop : tie.invariant-loop
+abbrev invariant-loop : tie.invariant-loop-i
 invariant-loop marks names blocks₀ a e i₀ blocks i =
     (i ≤ e) × Judged marks names blocks
     × (continue_by marks (take (e - a) (drop a names)) ≡ continue_by marks (take (e - i) (drop i names)))
 
-abbrev decreases-loop : tie.decreases-loop
+abbrev decreases-loop : tie.decreases-loop-i
 decreases-loop marks names blocks₀ a e i₀ blocks i = e - i
 
 ruleset laws = (rules, not-true, not-false, piece-goes-on, piece-stops, pieces-all)

@@ -8,10 +8,10 @@ use Rattle.names.specs.Same.{same_at}
 use Rattle.names.proofs.compare.window_same.Statement.{statement}
 use Rattle.names.proofs.compare.window_same.Tie as tie
 
-abbrev invariant-loop : tie.invariant-loop
+abbrev invariant-loop : tie.invariant-loop-k
 invariant-loop a b at n all₀ k₀ all k = (k ≤ n) × (all ≡ passes (same_at a b) at k)
 
-abbrev decreases-loop : tie.decreases-loop
+abbrev decreases-loop : tie.decreases-loop-k
 decreases-loop a b at n all₀ k₀ all k = n - k
 
 ruleset laws = (rules, none-fails, one_more, window-done)

@@ -9,10 +9,10 @@ use Rattle.names.specs.Same.{same_at}
 use Rattle.names.proofs.compare.windows_same.Statement.{statement}
 use Rattle.names.proofs.compare.windows_same.Tie as tie
 
-abbrev invariant-loop : tie.invariant-loop
+abbrev invariant-loop : tie.invariant-loop-i
 invariant-loop a b n last i₀ i = Walked (same_at a b) n (length a) last i
 
-abbrev decreases-loop : tie.decreases-loop
+abbrev decreases-loop : tie.decreases-loop-i
 decreases-loop a b n last i₀ i = length a - i
 
 pub windows_same_spec : {M : Type 1} → statement M
@@ -23,11 +23,11 @@ windows_same_spec =
     decreases-loop
     (λ c. search rules)
     (λ c κs. search rules)
-    (λ c. window-fails _ _ _ _ _ c.before.window_same.ensures (not-true _ c.if1.true) (omega arith))
-    (λ c. walk-starts _ _ _ _ _ c.before.window_same.ensures (not-false _ c.if1.false) (omega arith) (omega arith))
+    (λ c. window-fails _ _ _ _ _ c.window_same.ensures c.if-not-window_same.true (omega arith))
+    (λ c. walk-starts _ _ _ _ _ c.window_same.ensures c.if-not-window_same.false (omega arith) (omega arith))
     (λ c κs. search rules)
-    (λ c. window-fails _ _ _ _ _ c.before.window-same2.ensures (not-true _ c.if2.true) (omega arith))
+    (λ c. window-fails _ _ _ _ _ c.window_same-in-loop-i.ensures c.if-not-window_same-2.true (omega arith))
     (λ c. search rules)
     (λ c. search rules)
-    (λ c. walk-goes-on _ _ _ _ _ c.before.before.before.loop.invariant _ c.before.window-same2.ensures (not-false _ c.if2.false) c.before.before.loop-test.true)
-    (λ c. walk_ends _ _ _ _ _ c.before.loop.invariant c.loop-test.false))
+    (λ c. walk-goes-on _ _ _ _ _ c.loop-i.invariant _ c.window_same-in-loop-i.ensures c.if-not-window_same-2.false c.loop-i-test.true)
+    (λ c. walk_ends _ _ _ _ _ c.loop-i.invariant c.loop-i-test.false))

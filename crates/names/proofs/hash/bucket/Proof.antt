@@ -7,4 +7,4 @@ use Rattle.names.proofs.hash.bucket.Tie as tie
 
 pub bucket_spec : {M : Type 1} → statement M
 bucket_spec =
-    tie.close (tie.spec (λ c κs. search rules) (λ c. search rules) (λ c. bucket-read _ _ _ c.weigh.ensures refl))
+    tie.close (tie.spec (λ c κs. search rules) (λ c. search rules) (λ c. bucket-read _ _ _ c.weigh-sum.ensures refl))

@@ -4,10 +4,10 @@ use Rattle.names.proofs.Leads.{Walk, walk_start, walk-named, walk-ended, walk-fo
 use Rattle.names.proofs.ids.first_same.Statement.{statement}
 use Rattle.names.proofs.ids.first_same.Tie as tie
 
-abbrev invariant-loop : tie.invariant-loop
+abbrev invariant-loop : tie.invariant-loop-place
 invariant-loop sheet names heads links i name b place₀ place = Walk sheet names i place
 
-abbrev decreases-loop : tie.decreases-loop
+abbrev decreases-loop : tie.decreases-loop-place
 decreases-loop sheet names heads links i name b place₀ place = place
 
 ruleset laws = (rules, walk-ended, walk-found, walk-on, walk-less)
@@ -22,10 +22,10 @@ first_same_spec =
     (λ c. search rules)
     (λ c κs. search rules)
     (λ c.
-    let asked = c.before.before.before.before.before.requires in
-    walk_start _ _ _ _ _ _ _ asked.0 asked.3 asked.5 c.index.ensures)
+    let asked = c.requires in
+    walk_start _ _ _ _ _ _ _ asked.0 asked.3 asked.5 c.index-place.ensures)
     (λ c. search rules)
-    (λ c κs. walk-named _ _ _ _ c.before.loop.invariant.2 c.loop-test.true)
+    (λ c κs. walk-named _ _ _ _ c.loop-place.invariant.2 c.loop-place-test.true)
     (λ c κs. search rules)
     (λ c. search laws)
     (λ c. search rules)

@@ -8,33 +8,33 @@ use Rattle.names.proofs.Noting.{kind-keyed, kind-is, kind-is-not, kind-silent, n
 use Rattle.names.proofs.notes.note.Statement.{statement}
 use Rattle.names.proofs.notes.note.Tie as tie
 
-returns : tie.Need-returns
+returns : tie.Need-returns-then-kind-eq-DECLARATION
 unfolding any_of
 returns c =
-    let call = c.before.before in
-    let test = call.before.before in
-    let start = test.before.before.before.before.requires in
-    let kind = test.if1.true in
+    let call = c in
+    let test = call in
+    let start = test.requires in
+    let kind = test.if-kind-eq-DECLARATION.true in
     let keyed = kind-keyed _ _ _ start.0 _ start.4 start.3 Kind.Declaration refl kind in
     noted-declaration _ _ _ start.0 _ _ start.7 _ start.2 keyed start.5
     (kind-is _ _ _ start.0 _ start.4 Kind.Declaration kind)
     (kind-is-not _ _ _ start.0 _ start.4 Kind.ImportedName (λ other. omega arith)) _ call.note_declaration.ensures
 
-returns-2 : tie.Need-returns-2
+returns-2 : tie.Need-returns-then-kind-eq-IMPORTED_NAME
 unfolding any_of
 returns-2 c =
-    let start = c.before.before.before.before.before.requires in
-    let keyed = kind-keyed _ _ _ start.0 _ start.4 start.3 Kind.ImportedName refl c.if2.true in
+    let start = c.requires in
+    let keyed = kind-keyed _ _ _ start.0 _ start.4 start.3 Kind.ImportedName refl c.if-kind-eq-IMPORTED_NAME.true in
     noted-import _ _ _ start.0 _ _ start.7 _ start.2 keyed start.5
-    (kind-is _ _ _ start.0 _ start.4 Kind.ImportedName c.if2.true)
-    (kind-is-not _ _ _ start.0 _ start.4 Kind.Declaration c.before.if1.false)
+    (kind-is _ _ _ start.0 _ start.4 Kind.ImportedName c.if-kind-eq-IMPORTED_NAME.true)
+    (kind-is-not _ _ _ start.0 _ start.4 Kind.Declaration c.if-kind-eq-DECLARATION.false)
 
-returns-3 : tie.Need-returns-3
+returns-3 : tie.Need-returns-else-kind-eq-IMPORTED_NAME
 returns-3 c =
-    let start = c.before.before.before.before.before.requires in
+    let start = c.requires in
     noted-none _ _ _ start.0 _ _ start.7
-    (kind-silent _ _ _ start.0 Kind.Declaration (kind-is-not _ _ _ start.0 _ start.4 Kind.Declaration c.before.if1.false))
-    (kind-silent _ _ _ start.0 Kind.ImportedName (kind-is-not _ _ _ start.0 _ start.4 Kind.ImportedName c.if2.false))
+    (kind-silent _ _ _ start.0 Kind.Declaration (kind-is-not _ _ _ start.0 _ start.4 Kind.Declaration c.if-kind-eq-DECLARATION.false))
+    (kind-silent _ _ _ start.0 Kind.ImportedName (kind-is-not _ _ _ start.0 _ start.4 Kind.ImportedName c.if-kind-eq-IMPORTED_NAME.false))
 
 pub note_spec : {M : Type 1} → statement M
 note_spec =

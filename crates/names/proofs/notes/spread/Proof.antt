@@ -9,17 +9,17 @@ use Rattle.names.proofs.Stored.{room_after, room-after-two}
 use Rattle.names.proofs.notes.spread.Statement.{statement}
 use Rattle.names.proofs.notes.spread.Tie as tie
 
-returns : tie.Need-returns
+returns : tie.Need-returns-then-place-eq0
 returns c =
-    let read = c.before.before.before in
-    let start = read.before.before.before.before.before.requires in
-    spread-undeclared _ _ _ _ start.1 start.3 _ read.index.ensures _ refl _ refl c.if1.true
+    let read = c in
+    let start = read.requires in
+    spread-undeclared _ _ _ _ start.1 start.3 _ read.index-id.ensures _ refl _ refl c.if-place-eq0.true
 
-returns-2 : tie.Need-returns-2
+returns-2 : tie.Need-returns
 returns-2 c =
-    let read = c.before.before.before.before.before in
-    let start = read.before.before.before.before.before.requires in
-    spread-declared _ _ _ _ start.1 start.3 _ read.index.ensures _ refl _ refl _ _ c.before.index2.ensures c.target.ensures
+    let read = c in
+    let start = read.requires in
+    spread-declared _ _ _ _ start.1 start.3 _ read.index-id.ensures _ refl _ refl _ _ c.index.ensures c.target.ensures
 
 pub spread_spec : {M : Type 1} → statement M
 spread_spec =
@@ -30,41 +30,41 @@ spread_spec =
     (λ c. search rules)
     (λ c κs. search rules)
     (λ c.
-    let start = c.before.before.before.before.before.requires in
-    let small = own-small _ _ _ _ start.1 start.3 _ c.index.ensures in
+    let start = c.requires in
+    let small = own-small _ _ _ _ start.1 start.3 _ c.index-id.ensures in
     search rules)
     (λ c.
-    let start = c.before.before.before.before.before.requires in
-    let small = own-small _ _ _ _ start.1 start.3 _ c.index.ensures in
+    let start = c.requires in
+    let small = own-small _ _ _ _ start.1 start.3 _ c.index-id.ensures in
     search rules)
     (λ c.
-    let start = c.before.before.before.before.before.before.requires in
-    let small = own-small _ _ _ _ start.1 start.3 _ c.before.index.ensures in
+    let start = c.requires in
+    let small = own-small _ _ _ _ start.1 start.3 _ c.index-id.ensures in
     search rules)
     (λ c. search rules)
     (λ c. search rules)
     (λ c. search rules)
     (λ c.
-    let start = c.before.before.before.before.before.before.requires in
-    let small = own-small _ _ _ _ start.1 start.3 _ c.before.index.ensures in
+    let start = c.requires in
+    let small = own-small _ _ _ _ start.1 start.3 _ c.index-id.ensures in
     search rules)
     (λ c.
-    let start = c.before.before.before.before.before.before.requires in
-    let small = own-small _ _ _ _ start.1 start.3 _ c.before.index.ensures in
+    let start = c.requires in
+    let small = own-small _ _ _ _ start.1 start.3 _ c.index-id.ensures in
     search rules)
     (λ c.
-    let read = c.before.before in
-    let start = read.before.before.before.before.before in
-    let small = own-small _ _ _ _ start.requires.1 start.requires.3 _ read.index.ensures in
+    let read = c in
+    let start = read in
+    let small = own-small _ _ _ _ start.requires.1 start.requires.3 _ read.index-id.ensures in
     let table = start.args.table.now in
-    room_after table start.requires.0 _ _ small (lit≤ tt) (1024 + start.args.i) (get_or table (1024 + read.index.result) 0))
+    room_after table start.requires.0 _ _ small (lit≤ tt) (1024 + start.args.i) (get_or table (1024 + read.index-id.result) 0))
     (λ c. search rules)
     (λ c. search rules)
     (λ c.
-    let read = c.before.before in
-    let start = read.before.before.before.before.before in
+    let read = c in
+    let start = read in
     let table = start.args.table.now in
-    room_after table start.requires.0 _ _ start.requires.2 (lit≤ tt) (1024 + start.args.i) (get_or table (1024 + read.index.result) 0))
+    room_after table start.requires.0 _ _ start.requires.2 (lit≤ tt) (1024 + start.args.i) (get_or table (1024 + read.index-id.result) 0))
     (λ c. search rules)
     returns
     (λ c κs. search rules)
@@ -72,11 +72,11 @@ spread_spec =
     (λ c. search rules)
     (λ c. search rules)
     (λ c.
-    let read = c.before.before.before.before.before in
-    let start = read.before.before.before.before.before in
+    let read = c in
+    let start = read in
     let table = start.args.table.now in
-    let place = get_or table (1024 + read.index.result) 0 in
+    let place = get_or table (1024 + read.index-id.result) 0 in
     room-after-two table start.requires.0 _ _ start.requires.2 (lit≤ tt) (1024 + start.args.i) place (2048 + start.args.i)
-    (get_or (set table (1024 + start.args.i) place) (2048 + read.index.result) 0))
+    (get_or (set table (1024 + start.args.i) place) (2048 + read.index-id.result) 0))
     (λ c. search rules)
     returns-2)

@@ -11,13 +11,13 @@ first_name_spec =
     (λ c κs. search rules)
     (λ c κs. search rules)
     (λ c.
-    let fits = name-fits _ _ 0 c.before.before.before.before.requires _ _ c.before.name_offset.ensures c.name_len.ensures in
+    let fits = name-fits _ _ 0 c.requires _ _ c.name_offset-start.ensures c.name_len.ensures in
     search rules)
     (λ c. search rules)
     (λ c.
-    let fits = name-fits _ _ 0 c.before.before.before.before.requires _ _ c.before.name_offset.ensures c.name_len.ensures in
+    let fits = name-fits _ _ 0 c.requires _ _ c.name_offset-start.ensures c.name_len.ensures in
     search rules)
     (λ c.
-    let fits = name-fits _ _ 0 c.before.before.before.before.requires _ _ c.before.name_offset.ensures c.name_len.ensures in
+    let fits = name-fits _ _ 0 c.requires _ _ c.name_offset-start.ensures c.name_len.ensures in
     search rules)
-    (λ c. name-read _ _ 0 c.before.before.before.before.before.requires _ _ c.before.before.name_offset.ensures c.before.name_len.ensures))
+    (λ c. name-read _ _ 0 c.requires _ _ c.name_offset-start.ensures c.name_len.ensures))

@@ -17,12 +17,12 @@ is_first_named_spec =
     (λ c κs. search rules)
     (λ c κs. search rules)
     (λ c.
-    let has = c.before.before.before in
-    named-unfit _ _ _ _ has.before.has_name.ensures (not-false _ has.if1.false) _ _ c.before.before.name_offset.ensures c.before.name_len.ensures (omega arith))
+    let has = c in
+    named-unfit _ _ _ _ has.has_name.ensures has.if-not-has_name.false _ _ c.name_offset-start.ensures c.name_len-len.ensures (omega arith))
     (λ c. search rules)
     (λ c.
-    let has = c.before.before.before.before in
-    named-unfit _ _ _ _ has.before.has_name.ensures (not-false _ has.if1.false) _ _ c.before.before.before.name_offset.ensures c.before.before.name_len.ensures (omega arith))
+    let has = c in
+    named-unfit _ _ _ _ has.has_name.ensures has.if-not-has_name.false _ _ c.name_offset-start.ensures c.name_len-len.ensures (omega arith))
     (λ c.
-    let has = c.before.before.before.before in
-    named-fit _ _ _ _ has.before.has_name.ensures (not-false _ has.if1.false) _ _ c.before.before.before.name_offset.ensures c.before.before.name_len.ensures (omega arith)))
+    let has = c in
+    named-fit _ _ _ _ has.has_name.ensures has.if-not-has_name.false _ _ c.name_offset-start.ensures c.name_len-len.ensures (omega arith)))

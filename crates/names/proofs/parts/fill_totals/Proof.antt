@@ -13,13 +13,13 @@ use Rattle.names.proofs.Table.{totals-stored}
 use Rattle.names.proofs.parts.fill_totals.Statement.{statement}
 use Rattle.names.proofs.parts.fill_totals.Tie as tie
 
-abbrev invariant-loop : tie.invariant-loop
+abbrev invariant-loop : tie.invariant-loop-j
 invariant-loop sheet names table n wildcard₀ found₀ j₀ wildcard found j =
     (j ≤ n) × (found ≤ j)
     × (any_of (is Kind.Wildcard) (known sheet names) ≡ (wildcard || any_of (is Kind.Wildcard) (drop j (known sheet names))))
     × (length (select (is Kind.Declaration) (known sheet names)) ≡ found + length (select (is Kind.Declaration) (drop j (known sheet names))))
 
-abbrev decreases-loop : tie.decreases-loop
+abbrev decreases-loop : tie.decreases-loop-j
 decreases-loop sheet names table n wildcard₀ found₀ j₀ wildcard found j = n - j
 
 ruleset laws = (rules, wildcard-next, wildcard-all, declaration-next, declaration-all, totals-stored)

@@ -9,10 +9,10 @@ use Rattle.names.proofs.Spreading.{silent-none, silent-more, silent-whole}
 use Rattle.names.proofs.parts.is_silent.Statement.{statement}
 use Rattle.names.proofs.parts.is_silent.Tie as tie
 
-abbrev invariant-loop : tie.invariant-loop
+abbrev invariant-loop : tie.invariant-loop-k
 invariant-loop table n noted₀ k₀ noted k = (k ≤ n) × (noted ≡ false → Silent table k)
 
-abbrev decreases-loop : tie.decreases-loop
+abbrev decreases-loop : tie.decreases-loop-k
 decreases-loop table n noted₀ k₀ noted k = n - k
 
 pub is_silent_spec : {M : Type 1} → statement M
@@ -31,8 +31,8 @@ is_silent_spec =
     (λ c. search rules)
     (λ c. search rules)
     (λ c.
-    let loop = c.before.before.before.loop in
+    let loop = c.loop-k in
     (omega arith, λ e. silent-more _ _ _ loop.invariant.1 e))
     (λ c. λ e.
-    let loop = c.before.loop in
-    silent-whole _ _ _ _ loop.invariant.1 loop.invariant.0 c.loop-test.false e))
+    let loop = c.loop-k in
+    silent-whole _ _ _ _ loop.invariant.1 loop.invariant.0 c.loop-k-test.false e))

@@ -13,24 +13,24 @@ use Rattle.names.proofs.Reading.{read_none, read_all}
 use Rattle.names.proofs.parts.read_records.Statement.{statement}
 use Rattle.names.proofs.parts.read_records.Tie as tie
 
-abbrev invariant-loop : tie.invariant-loop
+abbrev invariant-loop : tie.invariant-loop-i
 invariant-loop sheet names table₀ heads₀ links₀ blocks₀ n marks i₀ table heads links blocks i =
     (i ≤ n) × Judged marks names blocks × Chained sheet names heads links i × Read sheet names table i i
 
-abbrev decreases-loop : tie.decreases-loop
+abbrev decreases-loop : tie.decreases-loop-i
 decreases-loop sheet names table₀ heads₀ links₀ blocks₀ n marks i₀ table heads links blocks i = n - i
 
 read-requires : tie.Need-read-requires invariant-loop decreases-loop
 read-requires c κs =
-    let turn = c.before.before.before.before.before in
-    let begun = turn.before.before in
-    let count = begun.before.count.ensures in
-    let inv = turn.before.loop.invariant in
-    let inside = turn.loop-test.true in (
+    let turn = c in
+    let begun = turn in
+    let count = begun.count-n.ensures in
+    let inv = turn.loop-i.invariant in
+    let inside = turn.loop-i-test.true in (
       rw (← count.0) inside,
       omega (arith, count.1),
       whole-known _ _ _ count.0 inside,
-      begun.name_marks.ensures,
+      begun.name_marks-marks.ensures,
       inv.1,
       inv.3.size,
       inv.2,
@@ -46,17 +46,17 @@ read_records_spec =
     (λ c κs. search rules)
     (λ c κs. search rules)
     (λ c.
-    let start = c.before.before.before.before.before in
+    let start = c in
     (omega arith, judged-none _ _ 256, chained-none _ _, read_none _ _ _ start.requires.1))
     read-requires
     (λ c. search rules)
     (λ c. search rules)
     (λ c.
-    let read = c.before.before in
-    let inside = read.before.before.before.before.before.before.loop-test.true in
+    let read = c in
+    let inside = read.loop-i-test.true in
     (omega arith, read.read.ensures.0, read.read.ensures.1, read.read.ensures.2))
     (λ c. search rules)
     (λ c.
-    let inv = c.before.loop.invariant in
-    let counted = c.before.before.before in
-    read_all _ _ _ _ _ counted.count.ensures.0 inv.0 c.loop-test.false inv.3))
+    let inv = c.loop-i.invariant in
+    let counted = c in
+    read_all _ _ _ _ _ counted.count-n.ensures.0 inv.0 c.loop-i-test.false inv.3))

@@ -7,18 +7,18 @@ use Rattle.names.proofs.Spreading.{spread_none, none-spread, spread-all}
 use Rattle.names.proofs.parts.spread_notes.Statement.{statement}
 use Rattle.names.proofs.parts.spread_notes.Tie as tie
 
-abbrev invariant-loop : tie.invariant-loop
+abbrev invariant-loop : tie.invariant-loop-i
 invariant-loop sheet names table₀ n i₀ table i = (i ≤ n) × Spread sheet names table i
 
-abbrev decreases-loop : tie.decreases-loop
+abbrev decreases-loop : tie.decreases-loop-i
 decreases-loop sheet names table₀ n i₀ table i = n - i
 
 spread-requires : tie.Need-spread-requires invariant-loop decreases-loop
 spread-requires c κs =
-    let turn = c.before in
-    let count = turn.before.before.before.before.before.count.ensures in
-    let inv = turn.before.loop.invariant.1 in
-    let inside = turn.loop-test.true in
+    let turn = c in
+    let count = turn.count-n.ensures in
+    let inv = turn.loop-i.invariant.1 in
+    let inside = turn.loop-i-test.true in
     (inv.size, rw (← count.0) inside, omega (arith, count.1), inv)
 
 pub spread_notes_spec : {M : Type 1} → statement M
@@ -31,18 +31,18 @@ spread_notes_spec =
     (λ c κs. search rules)
     (λ c. search rules)
     (λ c.
-    let asked = c.before in
-    let start = asked.before.before.before.before.before.before in
-    none-spread _ _ _ _ asked.before.before.count.ensures.0 (asked.is_silent.ensures c.if1.true) start.requires.1)
-    (λ c. (omega arith, spread_none _ _ _ c.before.before.before.before.before.before.before.requires.1))
+    let asked = c in
+    let start = asked in
+    none-spread _ _ _ _ asked.count-n.ensures.0 (asked.is_silent.ensures c.if-is_silent.true) start.requires.1)
+    (λ c. (omega arith, spread_none _ _ _ c.requires.1))
     spread-requires
     (λ c. search rules)
     (λ c. search rules)
     (λ c.
-    let spread = c.before.before in
-    let inside = spread.before.before.loop-test.true in
+    let spread = c in
+    let inside = spread.loop-i-test.true in
     (omega arith, spread.spread.ensures))
     (λ c. search rules)
     (λ c.
-    let inv = c.before.loop.invariant in
-    spread-all _ _ _ _ _ c.before.before.before.before.before.count.ensures.0 inv.0 c.loop-test.false inv.1))
+    let inv = c.loop-i.invariant in
+    spread-all _ _ _ _ _ c.count-n.ensures.0 inv.0 c.loop-i-test.false inv.1))

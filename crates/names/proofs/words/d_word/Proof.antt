@@ -10,21 +10,18 @@ unfolding started_from
 d_word_spec =
     tie.close
     (tie.spec
-    (λ c. search rules)
     (λ c κs. search rules)
-    (λ c. rw (sym c.before.is_is_word.ensures ∙ c.if1.true, started_from))
-    (λ c. search rules)
+    (λ c. rw (sym c.is_word.ensures ∙ c.if-is_word.true, started_from))
     (λ c κs. search rules)
     (λ c.
-    let delta = c.before.before.before in
-    rw (sym delta.before.is_is_word.ensures ∙ delta.if1.false, sym c.before.is-word2.ensures ∙ c.if2.true, started_from))
-    (λ c. search rules)
+    let delta = c in
+    rw (sym delta.is_word.ensures ∙ delta.if-is_word.false, sym c.is_word-2.ensures ∙ c.if-is_word-2.true, started_from))
     (λ c κs. search rules)
     (λ c.
-    let deprecated = c.before.before.before in
-    let delta = deprecated.before.before.before in
-    rw (sym delta.before.is_is_word.ensures ∙ delta.if1.false, sym deprecated.before.is-word2.ensures ∙ deprecated.if2.false, sym c.before.is-word3.ensures ∙ c.if3.true, started_from))
+    let deprecated = c in
+    let delta = deprecated in
+    rw (sym delta.is_word.ensures ∙ delta.if-is_word.false, sym deprecated.is_word-2.ensures ∙ deprecated.if-is_word-2.false, sym c.is_word-3.ensures ∙ c.if-is_word-3.true, started_from))
     (λ c.
-    let deprecated = c.before.before.before in
-    let delta = deprecated.before.before.before in
-    rw (sym delta.before.is_is_word.ensures ∙ delta.if1.false, sym deprecated.before.is-word2.ensures ∙ deprecated.if2.false, sym c.before.is-word3.ensures ∙ c.if3.false, started_from)))
+    let deprecated = c in
+    let delta = deprecated in
+    rw (sym delta.is_word.ensures ∙ delta.if-is_word.false, sym deprecated.is_word-2.ensures ∙ deprecated.if-is_word-2.false, sym c.is_word-3.ensures ∙ c.if-is_word-3.false, started_from)))

@@ -13,21 +13,17 @@ word_spec =
     (λ c. search rules)
     (λ c κs. search rules)
     (λ c. search (rules, started-word 100))
-    (λ c. search rules)
     (λ c κs. search rules)
     (λ c. search (rules, started-place 108))
-    (λ c. search rules)
     (λ c κs. search rules)
     (λ c. search (rules, started-place 114))
-    (λ c. search rules)
     (λ c κs. search rules)
     (λ c. search (rules, started-place 118))
-    (λ c. search rules)
     (λ c κs. search rules)
     (λ c. search (rules, started-place 122))
     (λ c.
-    let v = c.before in
-    let r = v.before in
-    let l = r.before in
-    let d = l.before in
-    search (rules, other_word, d.if1.false, l.if2.false, r.if3.false, v.if4.false, c.if5.false)))
+    let v = c in
+    let r = v in
+    let l = r in
+    let d = l in
+    search (rules, other_word, d.if-first-eq100.false, l.if-first-eq108.false, r.if-first-eq114.false, v.if-first-eq118.false, c.if-first-eq122.false)))
