@@ -1,5 +1,6 @@
 // The rules of a field's type.
 #![tactic(auto)]
+
 mod bits;
 mod declared;
 mod errors;

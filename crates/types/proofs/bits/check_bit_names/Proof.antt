@@ -13,13 +13,13 @@ use Rattle.types.proofs.BitNames.{BitsLeft, bit-next, bit-over, bit-end}
 use Rattle.types.proofs.bits.check_bit_names.Statement.{statement}
 use Rattle.types.proofs.bits.check_bit_names.Tie as tie
 
-abbrev invariant-loop : tie.invariant-loop
+abbrev invariant-loop : tie.invariant-loop-i
 invariant-loop sheet table list₀ counts₀ span a e i₀ list counts i =
     (length list ≡ length list₀)
     × BitsLeft table sheet span e
     (push_found (bits_found (context_by table sheet) span (front (is Kind.BitName) (view_of sheet a e))) (list₀, counts₀)) i (list, counts)
 
-abbrev decreases-loop : tie.decreases-loop
+abbrev decreases-loop : tie.decreases-loop-i
 decreases-loop sheet table list₀ counts₀ span a e i₀ list counts i = e - i
 
 ruleset laws = (rules, bit-next, bit-over, bit-end)
@@ -40,12 +40,12 @@ check_bit_names_spec =
     (λ c. search laws)
     (λ c. search laws)
     (λ c.
-    let told = c.before.before.before in
-    let turn = told.before.before in
-    let at = turn.before.before.before in (
+    let told = c in
+    let turn = told in
+    let at = turn in (
       search rules,
-      bit-next _ _ _ _ _ _ _ _ _ _ _ at.before.loop.invariant.1 at.loop-test.true turn.before.before.kind.ensures turn.before.if1.false
-          turn.is_valid_field_name.ensures told.error.ensures c.before.before.push_if.ensures,
+      bit-next _ _ _ _ _ _ _ _ _ _ _ at.loop-i.invariant.1 at.loop-i-test.true turn.kind.ensures turn.if-kind-ne-BIT_NAME.false
+          turn.is_valid_field_name-valid.ensures told.error.ensures c.push_if-counts.ensures,
     ))
     (λ c. search laws)
     (λ c. search laws))

@@ -10,6 +10,6 @@ unfolding view_at
 has_bit_name_spec =
     tie.close
     (tie.spec
-    (λ c. rw (view-none _ _ _ c.if1.true))
+    (λ c. rw (view-none _ _ _ c.if-e-a.true))
     (λ c κs. search rules)
-    (λ c. rw (view-cons _ _ _ c.before.if1.false, ← c.kind.ensures)))
+    (λ c. rw (view-cons _ _ _ c.if-e-a.false, ← c.kind.ensures)))

@@ -12,13 +12,13 @@ use Rattle.types.proofs.Walk.{TypesLeft, types-start, types-passed, types-next, 
 use Rattle.types.proofs.field_type.check_types.Statement.{statement}
 use Rattle.types.proofs.field_type.check_types.Tie as tie
 
-abbrev invariant-loop : tie.invariant-loop
+abbrev invariant-loop : tie.invariant-loop-i
 invariant-loop sheet table list₀ counts₀ a e due₀ i₀ list counts due i =
     (length list ≡ length list₀)
     × (due.skipped + due.checked ≤ i + 1)
     × TypesLeft table sheet e (push_found (type_violations (context_by table sheet) (view_of sheet a e)) (list₀, counts₀)) i due (list, counts)
 
-abbrev decreases-loop : tie.decreases-loop
+abbrev decreases-loop : tie.decreases-loop-i
 decreases-loop sheet table list₀ counts₀ a e due₀ i₀ list counts due i = e - i
 
 ruleset laws = (rules, types-start, types-passed, types-next, types-done, types-last, types-end, no-bit)

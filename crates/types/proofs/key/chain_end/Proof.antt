@@ -6,11 +6,11 @@ use Rattle.types.proofs.Chain.{EndsAt, chain-start, chain_next, chain-over, chai
 use Rattle.types.proofs.key.chain_end.Statement.{statement}
 use Rattle.types.proofs.key.chain_end.Tie as tie
 
-abbrev invariant-loop : tie.invariant-loop
+abbrev invariant-loop : tie.invariant-loop-left
 invariant-loop sheet table i at₀ left₀ at left =
     EndsAt (context_by table sheet) sheet (chain_end (context_by table sheet) (declarations_of table) (view_at sheet i)) left at
 
-abbrev decreases-loop : tie.decreases-loop
+abbrev decreases-loop : tie.decreases-loop-left
 decreases-loop sheet table i at₀ left₀ at left = left
 
 ruleset laws = (rules, chain-start, chain_next, chain-over, chain-out)

@@ -10,4 +10,4 @@ is_without_key_spec =
     (λ c κs. search rules)
     (λ c κs. search rules)
     (λ c κs. search rules)
-    (λ c. rw (← c.before.before.is_declared_as.ensures, ← c.before.is-declared-as2.ensures, ← c.is-declared-as3.ensures)))
+    (λ c. rw (← c.is_declared_as.ensures, ← c.is_declared_as-2.ensures, ← c.is_declared_as-3.ensures)))

@@ -5,10 +5,10 @@ use Rattle.types.proofs.Optionals.{Passed, optional-next, optional-over, optiona
 use Rattle.types.proofs.optional.behind_optionals.Statement.{statement}
 use Rattle.types.proofs.optional.behind_optionals.Tie as tie
 
-abbrev invariant-loop : tie.invariant-loop
+abbrev invariant-loop : tie.invariant-loop-i
 invariant-loop sheet a e i₀ i = Passed sheet a e i
 
-abbrev decreases-loop : tie.decreases-loop
+abbrev decreases-loop : tie.decreases-loop-i
 decreases-loop sheet a e i₀ i = e - i
 
 pub behind_optionals_spec : {M : Type 1} → statement M

@@ -9,4 +9,4 @@ is_collection_type_spec =
     (tie.spec
     (λ c κs. search rules)
     (λ c κs. search rules)
-    (λ c. rw c.before.behind_optionals.ensures at c.is_bare_collection.ensures))
+    (λ c. rw c.behind_optionals.ensures at c.is_bare_collection.ensures))

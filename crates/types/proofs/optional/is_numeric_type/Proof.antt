@@ -9,4 +9,4 @@ is_numeric_type_spec =
     (tie.spec
     (λ c κs. search rules)
     (λ c κs. search rules)
-    (λ c. rw c.before.behind_optionals.ensures at c.is_delta_valid_type.ensures))
+    (λ c. rw c.behind_optionals.ensures at c.is_delta_valid_type.ensures))

@@ -23,7 +23,7 @@ pub is_limit_capped_type_spec : {M : Type 1} → statement M
 is_limit_capped_type_spec =
     tie.close
     (tie.spec
-    (λ c. rw (view-none _ _ _ c.if1.true))
+    (λ c. rw (view-none _ _ _ c.if-e-a.true))
     (λ c κs. search rules)
     (λ c κs. search rules)
     (λ c. search capped))

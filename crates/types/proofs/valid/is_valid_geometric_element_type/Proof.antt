@@ -10,7 +10,7 @@ unfolding view_at
 is_valid_geometric_element_type_spec =
     tie.close
     (tie.spec
-    (λ c. rw (view-none _ _ _ c.if1.true))
+    (λ c. rw (view-none _ _ _ c.if-e-a.true))
     (λ c κs. search rules)
     (λ c κs. search rules)
-    (λ c. rw (view-cons _ _ _ c.before.before.if1.false, ← c.kind.ensures, ← c.before.sub.ensures)))
+    (λ c. rw (view-cons _ _ _ c.if-e-a.false, ← c.kind.ensures, ← c.sub-sub.ensures)))
