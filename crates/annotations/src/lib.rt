@@ -1,5 +1,6 @@
 // Annotations: rules 13 to 22.
 #![tactic(auto)]
+
 mod annotation;
 mod combined;
 mod deprecated;

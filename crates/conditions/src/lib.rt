@@ -1,5 +1,6 @@
 // The conditions of a field: rules 23 to 30.
 #![tactic(auto)]
+
 mod expr;
 mod literals;
 mod node;

@@ -7,10 +7,10 @@ use Rattle.annotations.proofs.FirstWith.{first-here, first_past, first-none}
 use Rattle.annotations.proofs.combined.first_with.Statement.{statement}
 use Rattle.annotations.proofs.combined.first_with.Tie as tie
 
-abbrev invariant-loop : tie.invariant-loop
+abbrev invariant-loop : tie.invariant-loop-i
 invariant-loop sheet table word a e i₀ i = first_with table sheet word a e ≡ first_with table sheet word i e
 
-abbrev decreases-loop : tie.decreases-loop
+abbrev decreases-loop : tie.decreases-loop-i
 decreases-loop sheet table word a e i₀ i = e - i
 
 pub first_with_spec : {M : Type 1} → statement M

@@ -9,10 +9,10 @@ use Rattle.annotations.proofs.Reasons.{reason_from, reason-start, reason-stop, r
 use Rattle.annotations.proofs.deprecated.has_reason.Statement.{statement}
 use Rattle.annotations.proofs.deprecated.has_reason.Tie as tie
 
-abbrev invariant-loop : tie.invariant-loop
+abbrev invariant-loop : tie.invariant-loop-j
 invariant-loop sheet table i e j₀ j = has_reason (context_by table sheet) (annotation_at sheet i e) ≡ reason_from table sheet j e
 
-abbrev decreases-loop : tie.decreases-loop
+abbrev decreases-loop : tie.decreases-loop-j
 decreases-loop sheet table i e j₀ j = e - j
 
 pub has_reason_spec : {M : Type 1} → statement M
@@ -22,7 +22,7 @@ has_reason_spec =
     invariant-loop
     decreases-loop
     (λ c κs. search rules)
-    (λ c. reason-start _ _ _ _ _ c.after.ensures)
+    (λ c. reason-start _ _ _ _ _ c.after-j.ensures)
     (λ c κs. search rules)
     (λ c. search reason-stop)
     (λ c κs. search rules)
@@ -30,6 +30,6 @@ has_reason_spec =
     (λ c. search rules)
     (λ c. search rules)
     (λ c.
-    let turn = c.before.before.before in
-    reason-next _ _ _ _ _ _ turn.before.before.loop.invariant turn.before.loop-test.true turn.kind.ensures _ c.before.before.if1.false c.before.code.ensures c.if2.false)
+    let turn = c in
+    reason-next _ _ _ _ _ _ turn.loop-j.invariant turn.loop-j-test.true turn.kind.ensures _ c.if-kind-eq-ANNOTATION.false c.code.ensures c.if-code-eq-REASON.false)
     (λ c. search reason-none))

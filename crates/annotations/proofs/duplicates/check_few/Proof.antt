@@ -12,14 +12,14 @@ use Rattle.annotations.proofs.Repeats.{duplicates_from, duplicates-start, duplic
 use Rattle.annotations.proofs.duplicates.check_few.Statement.{statement}
 use Rattle.annotations.proofs.duplicates.check_few.Tie as tie
 
-abbrev invariant-loop : tie.invariant-loop
+abbrev invariant-loop : tie.invariant-loop-i
 invariant-loop sheet table list₀ a e counts₀ i₀ list counts i =
     (a ≤ i)
     × (length list ≡ length list₀)
     × (push_found (duplicates_from table sheet a e i) (list, counts)
     ≡ push_found (duplicate_annotations (context_by table sheet) [] (annotations_of (view_of sheet a e))) (list₀, counts₀))
 
-abbrev decreases-loop : tie.decreases-loop
+abbrev decreases-loop : tie.decreases-loop-i
 decreases-loop sheet table list₀ a e counts₀ i₀ list counts i = e - i
 
 ruleset laws = (rules, duplicates-start, duplicates-turn, duplicates-end)

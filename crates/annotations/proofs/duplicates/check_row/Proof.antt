@@ -15,7 +15,7 @@ use Rattle.annotations.proofs.Repeats.{duplicates_from, duplicates-start, duplic
 use Rattle.annotations.proofs.duplicates.check_row.Statement.{statement}
 use Rattle.annotations.proofs.duplicates.check_row.Tie as tie
 
-abbrev invariant-loop : tie.invariant-loop
+abbrev invariant-loop : tie.invariant-loop-i
 invariant-loop sheet table list₀ a e slots₀ counts₀ i₀ list slots counts i =
     (a ≤ i)
     × (length list ≡ length list₀)
@@ -23,7 +23,7 @@ invariant-loop sheet table list₀ a e slots₀ counts₀ i₀ list slots counts
     × (push_found (duplicates_from table sheet a e i) (list, counts)
     ≡ push_found (duplicate_annotations (context_by table sheet) [] (annotations_of (view_of sheet a e))) (list₀, counts₀))
 
-abbrev decreases-loop : tie.decreases-loop
+abbrev decreases-loop : tie.decreases-loop-i
 decreases-loop sheet table list₀ a e slots₀ counts₀ i₀ list slots counts i = e - i
 
 ruleset laws = (rules, duplicates-start, duplicates-turn, duplicates-end)
@@ -41,6 +41,6 @@ check_row_spec =
     (λ c κs. search rules)
     (λ c. search rules)
     (λ c. search rules)
-    (λ c. (search rules, search rules, search rules, duplicates-turn _ _ _ _ _ _ _ _ _ _ _ c.before.before.before.before.before.before.before.before.loop-test.true c.before.before.before.before.before.before.before.before.before.loop.invariant.0 c.before.before.before.before.before.before.is_duplicate_in_row.ensures.0 c.before.before.before.before.before.span.ensures c.before.before.before.before.error.ensures c.before.before.push_if.ensures c.before.before.before.before.before.before.before.before.before.loop.invariant.3))
+    (λ c. (search rules, search rules, search rules, duplicates-turn _ _ _ _ _ _ _ _ _ _ _ c.loop-i-test.true c.loop-i.invariant.0 c.is_duplicate_in_row-duplicate.ensures.0 c.span.ensures c.error-violation.ensures c.push_if-counts.ensures c.loop-i.invariant.3))
     (λ c. search rules)
     (λ c. search laws))

@@ -10,11 +10,11 @@ use Rattle.annotations.proofs.Repeats.{scan-found, scan-differs, scan-other, sca
 use Rattle.annotations.proofs.duplicates.is_repeated.Statement.{statement}
 use Rattle.annotations.proofs.duplicates.is_repeated.Tie as tie
 
-abbrev invariant-loop : tie.invariant-loop
+abbrev invariant-loop : tie.invariant-loop-j
 invariant-loop sheet table a i id j₀ j =
     any_of ((context_by table sheet).same i) (earlier sheet a i) ≡ any_of ((context_by table sheet).same i) (earlier sheet a j)
 
-abbrev decreases-loop : tie.decreases-loop
+abbrev decreases-loop : tie.decreases-loop-j
 decreases-loop sheet table a i id j₀ j = j - a
 
 ruleset laws = (rules, scan-found, scan-differs, scan-other, scan-none)

@@ -10,12 +10,12 @@ use Rattle.annotations.proofs.Fields.{each_turn, each-end}
 use Rattle.annotations.proofs.field.check_each.Statement.{statement}
 use Rattle.annotations.proofs.field.check_each.Tie as tie
 
-abbrev invariant-loop : tie.invariant-loop
+abbrev invariant-loop : tie.invariant-loop-i
 invariant-loop sheet table list₀ a e ta te counts₀ i₀ list counts i =
     (length list ≡ length list₀)
     × (push_found (each_from table sheet ta te i e) (list, counts) ≡ push_found (each_from table sheet ta te a e) (list₀, counts₀))
 
-abbrev decreases-loop : tie.decreases-loop
+abbrev decreases-loop : tie.decreases-loop-i
 decreases-loop sheet table list₀ a e ta te counts₀ i₀ list counts i = e - i
 
 pub check_each_spec : {M : Type 1} → statement M

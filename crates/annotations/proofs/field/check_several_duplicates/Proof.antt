@@ -8,7 +8,7 @@ pub check_several_duplicates_spec : {M : Type 1} → statement M
 check_several_duplicates_spec =
     tie.close
     (tie.spec
-    (λ c. single-duplicates _ _ _ _ _ (c.before.before.before.requires c.if1.true))
+    (λ c. single-duplicates _ _ _ _ _ (c.requires c.if-single.true))
     (λ c κs. search rules)
     (λ c. search rules)
     (λ c. search rules))

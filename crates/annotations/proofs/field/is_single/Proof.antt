@@ -7,10 +7,10 @@ use Rattle.annotations.proofs.Single.{Walked, after_next, after-end, after-past}
 use Rattle.annotations.proofs.field.is_single.Statement.{statement}
 use Rattle.annotations.proofs.field.is_single.Tie as tie
 
-abbrev invariant-loop : tie.invariant-loop
+abbrev invariant-loop : tie.invariant-loop-i
 invariant-loop sheet a e i₀ i = Walked sheet a e i
 
-abbrev decreases-loop : tie.decreases-loop
+abbrev decreases-loop : tie.decreases-loop-i
 decreases-loop sheet a e i₀ i = e - i
 
 ruleset laws = (rules, after_next, after-end, after-past)

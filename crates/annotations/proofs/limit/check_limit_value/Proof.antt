@@ -12,13 +12,13 @@ use Rattle.annotations.proofs.Limits.{limits_from, limits-start, limits-turn, li
 use Rattle.annotations.proofs.limit.check_limit_value.Statement.{statement}
 use Rattle.annotations.proofs.limit.check_limit_value.Tie as tie
 
-abbrev invariant-loop : tie.invariant-loop
+abbrev invariant-loop : tie.invariant-loop-j
 invariant-loop sheet table list₀ i e ta te counts₀ j₀ list counts j =
     (length list ≡ length list₀)
     × (push_found (limits_from table sheet i ta te j e) (list, counts)
     ≡ push_found (limit_violations (context_by table sheet) (view_of sheet ta te) (annotation_at sheet i e)) (list₀, counts₀))
 
-abbrev decreases-loop : tie.decreases-loop
+abbrev decreases-loop : tie.decreases-loop-j
 decreases-loop sheet table list₀ i e ta te counts₀ j₀ list counts j = e - j
 
 pub check_limit_value_spec : {M : Type 1} → statement M
@@ -28,7 +28,7 @@ check_limit_value_spec =
     invariant-loop
     decreases-loop
     (λ c κs. search rules)
-    (λ c. (search rules, limits-start _ _ _ _ _ _ _ c.after.ensures _))
+    (λ c. (search rules, limits-start _ _ _ _ _ _ _ c.after-j.ensures _))
     (λ c κs. search rules)
     (λ c. search rules)
     (λ c. search limits-stop)
@@ -36,8 +36,8 @@ check_limit_value_spec =
     (λ c. search rules)
     (λ c. search rules)
     (λ c.
-    let called = c.before.before in
-    let turn = called.before.before in
-    (search rules, limits-turn _ _ _ _ _ _ _ _ _ _ turn.before.before.before.loop.invariant.1 turn.before.before.loop-test.true turn.before.kind.ensures _ turn.if1.false called.check_argument.ensures))
+    let called = c in
+    let turn = called in
+    (search rules, limits-turn _ _ _ _ _ _ _ _ _ _ turn.loop-j.invariant.1 turn.loop-j-test.true turn.kind.ensures _ turn.if-kind-eq-ANNOTATION.false called.check_argument-counts.ensures))
     (λ c. search rules)
     (λ c. search limits-end))

@@ -16,5 +16,5 @@ meet_spec =
     (λ c. search rules)
     (λ c. search rules)
     (λ c.
-    let start = c.before.before.before.before.before.before in
-    slotted-meet _ _ _ _ _ _ _ _ _ start.requires.0 start.requires.1 c.before.before.before.before.id.ensures c.before.before.is_met.ensures c.slot.ensures.0 c.before.short.ensures))
+    let start = c in
+    slotted-meet _ _ _ _ _ _ _ _ _ start.requires.0 start.requires.1 c.id-id.ensures c.is_met-met.ensures c.slot.ensures.0 c.short.ensures))

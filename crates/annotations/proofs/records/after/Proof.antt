@@ -9,4 +9,4 @@ after_spec =
     tie.close (tie.spec
     (λ c. search rules)
     (λ c. after-within _ _)
-    (λ c. after-beyond _ _ c.if1.false))
+    (λ c. after-beyond _ _ c.if-i-e.false))

@@ -10,14 +10,14 @@ use Rattle.conditions.proofs.WholeCondition.{condition-next, condition-end}
 use Rattle.conditions.proofs.expr.validate_where_expr.Statement.{statement}
 use Rattle.conditions.proofs.expr.validate_where_expr.Tie as tie
 
-abbrev invariant-loop : tie.invariant-loop
+abbrev invariant-loop : tie.invariant-loop-i
 invariant-loop sheet table list₀ a e ta te literals collection counts₀ i₀ list counts i =
     (length list ≡ length list₀)
     × (◌≡◌ {A = State}
     (push_found (condition_violations (context_by table sheet) (view_of sheet ta te) (view_of sheet i e)) (list, counts))
     (push_found (condition_violations (context_by table sheet) (view_of sheet ta te) (view_of sheet a e)) (list₀, counts₀)))
 
-abbrev decreases-loop : tie.decreases-loop
+abbrev decreases-loop : tie.decreases-loop-i
 decreases-loop sheet table list₀ a e ta te literals collection counts₀ i₀ list counts i = e - i
 
 pub validate_where_expr_spec : {M : Type 1} → statement M
@@ -34,10 +34,10 @@ validate_where_expr_spec =
     (λ c. search rules)
     (λ c. (
       search rules,
-      condition-next _ _ _ _ _ _ _ _ _ _ c.before.before.before.before.loop-test.true
-          c.before.before.before.before.before.before.before.literals_of.ensures
-          c.before.before.before.before.before.before.is_collection_type.ensures c.before.before.validate_node.ensures
-          c.before.before.before.before.before.loop.invariant.1,
+      condition-next _ _ _ _ _ _ _ _ _ _ c.loop-i-test.true
+          c.literals_of-literals.ensures
+          c.is_collection_type-collection.ensures c.validate_node-counts.ensures
+          c.loop-i.invariant.1,
     ))
     (λ c. search rules)
     (λ c. search condition-end))

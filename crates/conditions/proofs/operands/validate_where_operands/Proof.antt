@@ -13,7 +13,7 @@ use Rattle.conditions.proofs.EachRecord.{each_start, each_next, each-end}
 use Rattle.conditions.proofs.operands.validate_where_operands.Statement.{statement}
 use Rattle.conditions.proofs.operands.validate_where_operands.Tie as tie
 
-abbrev invariant-loop : tie.invariant-loop
+abbrev invariant-loop : tie.invariant-loop-j
 invariant-loop sheet table list₀ i e literals end counts₀ j₀ list counts j =
     (length list ≡ length list₀)
     × (◌≡◌ {A = State}
@@ -22,7 +22,7 @@ invariant-loop sheet table list₀ i e literals end counts₀ j₀ list counts j
     (flat_map (operand_violations (context_by table sheet) (taken literals)) (operands_of (view_at sheet i) (view_of sheet (i + 1) e)))
     (list₀, counts₀)))
 
-abbrev decreases-loop : tie.decreases-loop
+abbrev decreases-loop : tie.decreases-loop-j
 decreases-loop sheet table list₀ i e literals end counts₀ j₀ list counts j = end - j
 
 pub validate_where_operands_spec : {M : Type 1} → statement M
@@ -39,10 +39,10 @@ validate_where_operands_spec =
     (λ c. search rules)
     (λ c. search rules)
     (λ c.
-    let turn = c.before.before in (
+    let turn = c in (
       search rules,
-      each_next _ _ _ _ _ _ _ turn.before.before.loop-test.true turn.validate_where_operand.ensures
-          turn.before.before.before.loop.invariant.1,
+      each_next _ _ _ _ _ _ _ turn.loop-j-test.true turn.validate_where_operand-counts.ensures
+          turn.loop-j.invariant.1,
     ))
     (λ c. search rules)
     (λ c. search each-end))
