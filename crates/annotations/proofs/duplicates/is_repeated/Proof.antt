@@ -32,7 +32,7 @@ is_repeated_spec =
     (λ c κs. search rules)
     (λ c. search laws)
     (λ c. search laws)
-    (λ c. search laws)
+    (λ c. scan-differs _ _ _ _ _ c.id-id.ensures _ _ c.loop-j.invariant c.loop-j-test.true c.kind.ensures _ c.if-kind-eq-ANNOTATION.true c.id.ensures c.if-id.false)
     (λ c. search laws)
     (λ c. search laws)
     (λ c. search laws))
