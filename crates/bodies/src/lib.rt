@@ -1,5 +1,6 @@
 // The five bodies: rules 1 to 5 and 31 to 38.
 #![tactic(auto)]
+
 mod declaration;
 mod enums;
 mod errors;

@@ -1,5 +1,6 @@
 // Whether a sheet and a names text are accepted, and if not, by which row at which record.
 #![tactic(auto)]
+
 mod bytes;
 mod chain;
 mod due;

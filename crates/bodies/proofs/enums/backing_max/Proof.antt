@@ -1,4 +1,5 @@
 -- Each backing has its sub.
+use borrow.Author.Rules.{rules}
 use Rattle.rules.specs.Words.{look_up}
 use Rattle.bodies.proofs.Backings.{no_sub}
 use Rattle.bodies.proofs.enums.backing_max.Statement.{statement}
@@ -9,8 +10,8 @@ unfolding look_up
 backing_max_spec =
     tie.close
     (tie.spec
-    (λ c. rw c.match.keys1)
-    (λ c. rw c.match.keys2)
-    (λ c. rw c.match.keys3)
-    (λ c. rw c.match.keys4)
-    (λ c. no_sub _ c.match.rest))
+    (λ c. rw c.in-0.is)
+    (λ c. rw c.in-1.is)
+    (λ c. rw c.in-2.is)
+    (λ c. rw c.in-3.is)
+    (λ c. no_sub c.args.sub (search rules)))

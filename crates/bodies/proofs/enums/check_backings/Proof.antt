@@ -10,13 +10,13 @@ use Rattle.bodies.proofs.Backings.{backing-turn, backings-end}
 use Rattle.bodies.proofs.enums.check_backings.Statement.{statement}
 use Rattle.bodies.proofs.enums.check_backings.Tie as tie
 
-abbrev invariant-loop : tie.invariant-loop
+abbrev invariant-loop : tie.invariant-loop-i
 invariant-loop sheet list₀ a e counts₀ i₀ list counts i =
     (length list ≡ length list₀)
     × (push_found (backings_from (view_of sheet a e) (view_of sheet i e)) (list, counts)
     ≡ push_found (backings_from (view_of sheet a e) (view_of sheet a e)) (list₀, counts₀))
 
-abbrev decreases-loop : tie.decreases-loop
+abbrev decreases-loop : tie.decreases-loop-i
 decreases-loop sheet list₀ a e counts₀ i₀ list counts i = e - i
 
 pub check_backings_spec : {M : Type 1} → statement M

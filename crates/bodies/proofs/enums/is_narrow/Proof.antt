@@ -8,10 +8,10 @@ use Rattle.bodies.proofs.Backings.{any_used, over-here, over-later, over_none}
 use Rattle.bodies.proofs.enums.is_narrow.Statement.{statement}
 use Rattle.bodies.proofs.enums.is_narrow.Tie as tie
 
-abbrev invariant-loop : tie.invariant-loop
+abbrev invariant-loop : tie.invariant-loop-i
 invariant-loop sheet a e max i₀ i = any_used (ltb max) (view_of sheet i e) ≡ any_used (ltb max) (view_of sheet a e)
 
-abbrev decreases-loop : tie.decreases-loop
+abbrev decreases-loop : tie.decreases-loop-i
 decreases-loop sheet a e max i₀ i = e - i
 
 pub is_narrow_spec : {M : Type 1} → statement M

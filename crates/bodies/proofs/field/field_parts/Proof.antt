@@ -12,4 +12,4 @@ field_parts_spec =
     (λ c κs. search rules)
     (λ c κs. search rules)
     (λ c κs. search rules)
-    (λ c. parts-end _ _ _ _ c.before.before.before.before.before.requires.0 c.before.before.before.run_end.ensures c.before.before.optionals_end.ensures c.before.type_end.ensures c.run-end2.ensures))
+    (λ c. parts-end _ _ _ _ c.requires.0 c.run_end-type_start.ensures c.optionals_end-behind.ensures c.type_end-type_end.ensures c.run_end-end.ensures))

@@ -10,13 +10,13 @@ use Rattle.bodies.proofs.Bits.{bit-turn, bits-end}
 use Rattle.bodies.proofs.flags.check_flags.Statement.{statement}
 use Rattle.bodies.proofs.flags.check_flags.Tie as tie
 
-abbrev invariant-loop : tie.invariant-loop
+abbrev invariant-loop : tie.invariant-loop-i
 invariant-loop sheet table list₀ a e counts₀ i₀ list counts i =
     (length list ≡ length list₀)
     × (push_found (flags_violations (context_by table sheet) (view_of sheet i e)) (list, counts)
     ≡ push_found (flags_violations (context_by table sheet) (view_of sheet a e)) (list₀, counts₀))
 
-abbrev decreases-loop : tie.decreases-loop
+abbrev decreases-loop : tie.decreases-loop-i
 decreases-loop sheet table list₀ a e counts₀ i₀ list counts i = e - i
 
 pub check_flags_spec : {M : Type 1} → statement M

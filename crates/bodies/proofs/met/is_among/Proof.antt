@@ -10,11 +10,11 @@ use Rattle.annotations.proofs.Slots.{asked-none, asked-next, asked-all}
 use Rattle.bodies.proofs.met.is_among.Statement.{statement}
 use Rattle.bodies.proofs.met.is_among.Tie as tie
 
-abbrev invariant-loop : tie.invariant-loop
+abbrev invariant-loop : tie.invariant-loop-j
 invariant-loop sheet table kind a i id found₀ j₀ found j =
     (a ≤ j) × (j ≤ i) × (found ≡ has_key (of_kind kind sheet) (entry_of id_part table) a id (j - a))
 
-abbrev decreases-loop : tie.decreases-loop
+abbrev decreases-loop : tie.decreases-loop-j
 decreases-loop sheet table kind a i id found₀ j₀ found j = i - j
 
 pub is_among_spec : {M : Type 1} → statement M
@@ -30,9 +30,9 @@ is_among_spec =
     (λ c. search rules)
     (λ c. search rules)
     (λ c.
-    let turn = c.before.before.before.loop in (
+    let turn = c.loop-j in (
       search rules,
       search rules,
-      asked-next _ _ _ _ _ _ _ _ turn.invariant.2 turn.invariant.0 (ap (λ k. eqb k c.before.before.before.before.before.args.kind) c.before.kind.ensures) c.id.ensures,
+      asked-next _ _ _ _ _ _ _ _ turn.invariant.2 turn.invariant.0 (ap (λ k. eqb k c.args.kind) c.kind.ensures) c.id.ensures,
     ))
     (λ c. search (rules, asked-all)))

@@ -17,5 +17,5 @@ meet_name_spec =
     (λ c. search rules)
     (λ c. search rules)
     (λ c.
-    let start = c.before.before.before.before in
-    (rw (sym start.id.ensures) c.before.before.has_name.ensures, slotted-added _ _ _ _ _ _ _ _ start.before.before.requires.1 start.id.ensures c.slot.ensures.0 c.before.short.ensures start.before.before.requires.0)))
+    let start = c in
+    (rw (sym start.id-id.ensures) c.has_name-met.ensures, slotted-added _ _ _ _ _ _ _ _ start.requires.1 start.id-id.ensures c.slot.ensures.0 c.short.ensures start.requires.0)))

@@ -11,10 +11,10 @@ use Rattle.bodies.proofs.Fours.{fours-none}
 use Rattle.bodies.proofs.runs.fours_end.Statement.{statement}
 use Rattle.bodies.proofs.runs.fours_end.Tie as tie
 
-abbrev invariant-loop : tie.invariant-loop
+abbrev invariant-loop : tie.invariant-loop-left
 invariant-loop sheet a e left₀ i₀ left i = (a ≤ i) × (i + left ≤ e) × AllIn (is Kind.Optional) sheet a i
 
-abbrev decreases-loop : tie.decreases-loop
+abbrev decreases-loop : tie.decreases-loop-left
 decreases-loop sheet a e left₀ i₀ left i = left
 
 ruleset laws = (rules, fours-none)
@@ -32,6 +32,6 @@ fours_end_spec =
     (λ c. search rules)
     (λ c. search rules)
     (λ c.
-    let inv = c.before.before.before.loop.invariant in
-    (omega arith, omega arith, all-on _ _ _ _ _ inv.2 (c.before.are_optionals.ensures (not-false _ c.if1.false))))
+    let inv = c.loop-left.invariant in
+    (omega arith, omega arith, all-on _ _ _ _ _ inv.2 (c.are_optionals.ensures c.if-not-are_optionals.false)))
     (λ c. search rules))

@@ -8,10 +8,10 @@ use Rattle.bodies.proofs.FieldEnds.{type-next, type-less, type-over}
 use Rattle.bodies.proofs.runs.type_end.Statement.{statement}
 use Rattle.bodies.proofs.runs.type_end.Tie as tie
 
-abbrev invariant-loop : tie.invariant-loop
+abbrev invariant-loop : tie.invariant-loop-i
 invariant-loop sheet a e i₀ i = Passed in_type sheet a e i
 
-abbrev decreases-loop : tie.decreases-loop
+abbrev decreases-loop : tie.decreases-loop-i
 decreases-loop sheet a e i₀ i = e - i
 
 pub type_end_spec : {M : Type 1} → statement M
@@ -23,9 +23,9 @@ type_end_spec =
     (λ c. search none_passed)
     (λ c κs. search rules)
     (λ c κs. search rules)
-    (λ c. type-over _ _ _ _ _ _ c.before.before.before.before.loop.invariant c.before.before.before.loop-test.true c.before.before.run_end.ensures c.before.run-end2.ensures c.if1.true)
+    (λ c. type-over _ _ _ _ _ _ c.loop-i.invariant c.loop-i-test.true c.run_end-names.ensures c.run_end-end.ensures c.if-end-names.true)
     (λ c.
-    let less = type-less _ _ _ _ _ _ c.before.before.before.before.loop.invariant c.before.before.before.loop-test.true c.before.before.run_end.ensures c.before.run-end2.ensures c.if1.false in
-    omega (arith, less, c.before.before.before.loop-test.true))
-    (λ c. type-next _ _ _ _ _ _ c.before.before.before.before.loop.invariant c.before.before.before.loop-test.true c.before.before.run_end.ensures c.before.run-end2.ensures)
-    (λ c. passed-all _ _ _ _ _ c.before.loop.invariant c.loop-test.false))
+    let less = type-less _ _ _ _ _ _ c.loop-i.invariant c.loop-i-test.true c.run_end-names.ensures c.run_end-end.ensures c.if-end-names.false in
+    omega (arith, less, c.loop-i-test.true))
+    (λ c. type-next _ _ _ _ _ _ c.loop-i.invariant c.loop-i-test.true c.run_end-names.ensures c.run_end-end.ensures)
+    (λ c. passed-all _ _ _ _ _ c.loop-i.invariant c.loop-i-test.false))

@@ -4,10 +4,10 @@ use Rattle.bodies.proofs.Collecting.{Collected, collected-none, collected-other,
 use Rattle.bodies.proofs.seen.collect.Statement.{statement}
 use Rattle.bodies.proofs.seen.collect.Tie as tie
 
-abbrev invariant-loop : tie.invariant-loop
+abbrev invariant-loop : tie.invariant-loop-i
 invariant-loop sheet ordinals₀ marks₀ kind a e len₀ i₀ ordinals marks len i = Collected sheet a e kind ordinals marks len i
 
-abbrev decreases-loop : tie.decreases-loop
+abbrev decreases-loop : tie.decreases-loop-i
 decreases-loop sheet ordinals₀ marks₀ kind a e len₀ i₀ ordinals marks len i = i
 
 ruleset laws = (rules, collected-none, collected-other, collected-out, collected-room, collected-next)
@@ -34,4 +34,4 @@ collect_spec =
     (λ c. search rules)
     (λ c. search rules)
     (λ c. search laws)
-    (λ c. collected-all _ _ _ _ _ _ _ _ c.before.loop.invariant c.loop-test.false))
+    (λ c. collected-all _ _ _ _ _ _ _ _ c.loop-i.invariant c.loop-i-test.false))

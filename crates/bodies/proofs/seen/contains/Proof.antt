@@ -5,10 +5,10 @@ use Rattle.bodies.proofs.Marks.{InWindows, windows-none, windows-next, windows-a
 use Rattle.bodies.proofs.seen.contains.Statement.{statement}
 use Rattle.bodies.proofs.seen.contains.Tie as tie
 
-abbrev invariant-loop : tie.invariant-loop
+abbrev invariant-loop : tie.invariant-loop-i
 invariant-loop ordinals a e ordinal count window last found₀ i₀ found i = InWindows ordinals ordinal a last found i × (i ≤ window)
 
-abbrev decreases-loop : tie.decreases-loop
+abbrev decreases-loop : tie.decreases-loop-i
 decreases-loop ordinals a e ordinal count window last found₀ i₀ found i = window - i
 
 pub contains_spec : {M : Type 1} → statement M
@@ -32,5 +32,5 @@ contains_spec =
     (λ c. search rules)
     (λ c. search rules)
     (λ c. search rules)
-    (λ c. (windows-next _ _ _ _ _ _ c.before.before.before.loop.invariant.0, search rules))
-    (λ c. let w = c.before in windows-all _ _ _ _ _ _ _ _ (search rules) w.loop.invariant.0 w.loop.invariant.1 c.loop-test.false (search rules) (search rules) (search rules)))
+    (λ c. (windows-next _ _ _ _ _ _ c.loop-i.invariant.0, search rules))
+    (λ c. let w = c in windows-all _ _ _ _ _ _ _ _ (search rules) w.loop-i.invariant.0 w.loop-i.invariant.1 c.loop-i-test.false (search rules) (search rules) (search rules)))

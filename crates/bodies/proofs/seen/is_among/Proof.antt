@@ -5,10 +5,10 @@ use Rattle.bodies.proofs.Among.{Asked, asked-none, asked-next, asked-all}
 use Rattle.bodies.proofs.seen.is_among.Statement.{statement}
 use Rattle.bodies.proofs.seen.is_among.Tie as tie
 
-abbrev invariant-loop : tie.invariant-loop
+abbrev invariant-loop : tie.invariant-loop-i
 invariant-loop sheet kind a e ordinal found₀ i₀ found i = Asked sheet kind a e ordinal found i
 
-abbrev decreases-loop : tie.decreases-loop
+abbrev decreases-loop : tie.decreases-loop-i
 decreases-loop sheet kind a e ordinal found₀ i₀ found i = e - i
 
 pub is_among_spec : {M : Type 1} → statement M
@@ -23,4 +23,4 @@ is_among_spec =
     (λ c. search rules)
     (λ c. search rules)
     (λ c. search asked-next)
-    (λ c. asked-all _ _ _ _ _ _ _ c.before.loop.invariant c.loop-test.false))
+    (λ c. asked-all _ _ _ _ _ _ _ c.loop-i.invariant c.loop-i-test.false))

@@ -5,10 +5,10 @@ use Rattle.bodies.proofs.Marks.{AskedBefore, before-none, before-next, before-al
 use Rattle.bodies.proofs.seen.is_in.Statement.{statement}
 use Rattle.bodies.proofs.seen.is_in.Tie as tie
 
-abbrev invariant-loop : tie.invariant-loop
+abbrev invariant-loop : tie.invariant-loop-i
 invariant-loop ordinals a e ordinal found₀ i₀ found i = AskedBefore ordinals ordinal a found i × (i ≤ e)
 
-abbrev decreases-loop : tie.decreases-loop
+abbrev decreases-loop : tie.decreases-loop-i
 decreases-loop ordinals a e ordinal found₀ i₀ found i = e - i
 
 pub is_in_spec : {M : Type 1} → statement M
@@ -22,5 +22,5 @@ is_in_spec =
     (λ c. search rules)
     (λ c. search rules)
     (λ c. search rules)
-    (λ c. (before-next _ _ _ _ _ c.before.before.loop.invariant.0, search rules))
-    (λ c. before-all _ _ _ _ _ _ c.before.loop.invariant.0 c.before.loop.invariant.1 c.loop-test.false))
+    (λ c. (before-next _ _ _ _ _ c.loop-i.invariant.0, search rules))
+    (λ c. before-all _ _ _ _ _ _ c.loop-i.invariant.0 c.loop-i.invariant.1 c.loop-i-test.false))

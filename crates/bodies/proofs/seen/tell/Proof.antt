@@ -14,7 +14,7 @@ tell_spec =
     (λ c κs. search rules)
     (λ c κs. search rules)
     (λ c κs. search rules)
-    (λ c. let w = c.before.before.before in (
-      kept-gone _ _ _ _ _ _ _ _ _ _ _ w.before.before.requires w.if1.false c.before.before.short.ensures _ c.before.contains.ensures,
-      kept-before _ _ _ _ _ _ _ _ _ _ _ w.before.before.requires w.if1.false c.before.before.short.ensures _ c.contains2.ensures,
+    (λ c. let w = c in (
+      kept-gone _ _ _ _ _ _ _ _ _ _ _ w.requires w.if-ordinal-gt-MAX_ORDINAL.false c.short-number.ensures _ c.contains-tombstoned.ensures,
+      kept-before _ _ _ _ _ _ _ _ _ _ _ w.requires w.if-ordinal-gt-MAX_ORDINAL.false c.short-number.ensures _ c.contains-met.ensures,
     )))

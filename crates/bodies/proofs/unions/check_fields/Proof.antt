@@ -14,7 +14,7 @@ pub check_fields_spec : {M : Type 1} → statement M
 check_fields_spec =
     tie.close
     (tie.spec
-    (λ c. (fields-empty _ _ _ _ _ c.if1.true, ready-later _ _ _ c.before.before.before.requires.2 (search rules)))
+    (λ c. (fields-empty _ _ _ _ _ c.if-e-a.true, ready-later _ _ _ c.requires.2 (search rules)))
     (λ c. search rules)
     (λ c κs. search rules)
     (λ c κs. search rules)
@@ -26,15 +26,15 @@ check_fields_spec =
     (λ c κs. search rules)
     (λ c. search rules)
     (λ c κs. search rules)
-    (λ c κs. let bare = c.before.before.is_bare.ensures c.before.if3.true in (bare-alone _ _ _ bare, omega (arith, bare-fits _ _ _ bare, c.before.before.before.before.before.before.before.before.before.before.before.before.before.before.before.requires.3)))
+    (λ c κs. let bare = c.is_bare.ensures c.if-is_bare.true in (bare-alone _ _ _ bare, omega (arith, bare-fits _ _ _ bare, c.requires.3)))
     (λ c. search rules)
-    (λ c. let w = c.before.before.before.before.before.before.before.before in let bare = c.before.before.before.before.before.is_bare.ensures c.before.before.before.before.if3.true in (
-      fields-single _ _ _ _ _ _ _ _ _ w.before.before.before.before.before.before.before.if1.false w.before.before.before.before.before.kind_at.ensures w.before.before.before.before.if2.false w.before.before.before.before.before.before.run_end.ensures (bare-run _ _ _ bare).0 (item-found _ _ _ _ _ _ _ _ _ _ (field-alone _ _ _ _ _ w.before.field_rules.ensures w.check_ordinal.ensures) c.before.before.check_bare.ensures),
-      ready-later _ _ _ w.before.before.before.before.before.before.before.before.before.before.requires.2 (search rules),
+    (λ c. let w = c in let bare = c.is_bare.ensures c.if-is_bare.true in (
+      fields-single _ _ _ _ _ _ _ _ _ w.if-e-a.false w.kind_at.ensures w.if-kind_at-end.false w.run_end-end.ensures (bare-run _ _ _ bare).0 (item-found _ _ _ _ _ _ _ _ _ _ (field-alone _ _ _ _ _ w.field_rules.ensures w.check_ordinal-counts.ensures) c.check_bare.ensures),
+      ready-later _ _ _ w.requires.2 (search rules),
     ))
-    (λ c κs. (search rules, c.before.before.before.before.before.before.before.before.before.before.before.before.before.before.before.requires.3))
+    (λ c κs. (search rules, c.requires.3))
     (λ c. search rules)
-    (λ c. let w = c.before.before.before.before.before.before.before.before.before in (
-      fields-single _ _ _ _ _ _ _ _ _ w.before.before.before.before.before.before.before.if1.false w.before.before.before.before.before.kind_at.ensures w.before.before.before.before.if2.false w.before.before.before.before.before.before.run_end.ensures c.before.before.before.check_parts.ensures.1.0 (item-found _ _ _ _ _ _ _ _ _ _ (field-alone _ _ _ _ _ w.before.field_rules.ensures w.check_ordinal.ensures) c.before.before.before.check_parts.ensures.0),
-      ready-later _ _ _ w.before.before.before.before.before.before.before.before.before.before.requires.2 (search rules),
+    (λ c. let w = c in (
+      fields-single _ _ _ _ _ _ _ _ _ w.if-e-a.false w.kind_at.ensures w.if-kind_at-end.false w.run_end-end.ensures c.check_parts-passed.ensures.1.0 (item-found _ _ _ _ _ _ _ _ _ _ (field-alone _ _ _ _ _ w.field_rules.ensures w.check_ordinal-counts.ensures) c.check_parts-passed.ensures.0),
+      ready-later _ _ _ w.requires.2 (search rules),
     )))

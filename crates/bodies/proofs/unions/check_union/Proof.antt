@@ -10,11 +10,11 @@ use Rattle.bodies.proofs.Variants.{UnionKnown, union-none, union-other, union-va
 use Rattle.bodies.proofs.unions.check_union.Statement.{statement}
 use Rattle.bodies.proofs.unions.check_union.Tie as tie
 
-abbrev invariant-loop : tie.invariant-loop
+abbrev invariant-loop : tie.invariant-loop-i
 invariant-loop sheet table list₀ a e seen₀ marks₀ tombstones names₀ counts₀ i₀ list seen marks names counts i =
     UnionKnown table sheet a e tombstones seen marks (list₀, counts₀) (list, counts) i × Ready names i
 
-abbrev decreases-loop : tie.decreases-loop
+abbrev decreases-loop : tie.decreases-loop-i
 decreases-loop sheet table list₀ a e seen₀ marks₀ tombstones names₀ counts₀ i₀ list seen marks names counts i = e - i
 
 pub check_union_spec : {M : Type 1} → statement M
@@ -24,17 +24,17 @@ check_union_spec =
     invariant-loop
     decreases-loop
     (λ c κs. search rules)
-    (λ c. (union-none _ _ _ _ _ _ _ _ c.before.before.before.before.before.requires.0 c.before.before.before.before.before.requires.1 c.collect.ensures, ready-new _))
+    (λ c. (union-none _ _ _ _ _ _ _ _ c.requires.0 c.requires.1 c.collect-tombstones.ensures, ready-new _))
     (λ c κs. search rules)
     (λ c. search rules)
     (λ c. search rules)
-    (λ c. (union-other _ _ _ _ _ _ _ _ _ _ _ c.before.before.before.loop.invariant.0 c.before.before.loop-test.true c.before.kind_at.ensures c.if1.true, ready-later _ _ _ c.before.before.before.loop.invariant.1 (search rules)))
-    (λ c κs. (search rules, has-ordinal _ _ _ c.before.kind_at.ensures c.if1.false variant-has))
-    (λ c κs. let w = c.before.before.before in (w.before.before.loop-test.true, kind-is _ _ _ _ w.before.kind_at.ensures w.if1.false, c.before.before.ordinal_at.ensures, w.before.before.before.loop.invariant.0.2))
-    (λ c. let w = c.before.before.before.before.before.before in search (rules, w.loop-test.true, w.before.before.before.before.before.before.before.requires.1))
+    (λ c. (union-other _ _ _ _ _ _ _ _ _ _ _ c.loop-i.invariant.0 c.loop-i-test.true c.kind_at.ensures c.if-kind_at-ne-VARIANT.true, ready-later _ _ _ c.loop-i.invariant.1 (search rules)))
+    (λ c κs. (search rules, has-ordinal _ _ _ c.kind_at.ensures c.if-kind_at-ne-VARIANT.false variant-has))
+    (λ c κs. let w = c in (w.loop-i-test.true, kind-is _ _ _ _ w.kind_at.ensures w.if-kind_at-ne-VARIANT.false, c.ordinal_at-ordinal.ensures, w.loop-i.invariant.0.2))
+    (λ c. let w = c in search (rules, w.loop-i-test.true, w.requires.1))
     (λ c κs. search rules)
-    (λ c κs. let w = c.before.before.before.before.before.before in (omega (arith, c.before.before.run_end.ensures.2 (omega (arith, w.before.before.before.loop-test.true))), omega (arith, c.before.before.run_end.ensures.1, w.before.before.before.before.before.before.before.before.before.before.requires.1), w.before.before.before.before.loop.invariant.1, w.ordinal_at.ensures, omega (arith, c.before.before.run_end.ensures.1, w.before.before.before.before.before.before.before.before.before.before.requires.2)))
-    (λ c. let w = c.before.before.before.before.before.before.before.before.before.before.before.before in omega (arith, w.loop-test.true, c.before.before.before.before.before.run_end.ensures.2 (omega (arith, w.loop-test.true))))
-    (λ c. let w = c.before.before.before.before.before.before.before.before.before in (union-variant _ _ _ _ _ _ _ _ _ _ _ _ _ _ _ _ _ w.before.before.before.before.loop.invariant.0 w.before.before.before.loop-test.true w.before.before.kind_at.ensures w.before.if1.false w.ordinal_at.ensures c.before.before.before.before.before.before.meet.ensures c.before.before.before.before.before.run_end.ensures (search (rules, w.before.before.before.before.loop.invariant.0)) c.before.before.check_variant.ensures.0, c.before.before.check_variant.ensures.1))
+    (λ c κs. let w = c in (omega (arith, c.run_end-end.ensures.2 (omega (arith, w.loop-i-test.true))), omega (arith, c.run_end-end.ensures.1, w.requires.1), w.loop-i.invariant.1, w.ordinal_at-ordinal.ensures, omega (arith, c.run_end-end.ensures.1, w.requires.2)))
+    (λ c. let w = c in omega (arith, w.loop-i-test.true, c.run_end-end.ensures.2 (omega (arith, w.loop-i-test.true))))
+    (λ c. let w = c in (union-variant _ _ _ _ _ _ _ _ _ _ _ _ _ _ _ _ _ w.loop-i.invariant.0 w.loop-i-test.true w.kind_at.ensures w.if-kind_at-ne-VARIANT.false w.ordinal_at-ordinal.ensures c.meet-meeting.ensures c.run_end-end.ensures (search (rules, w.loop-i.invariant.0)) c.check_variant-counts.ensures.0, c.check_variant-counts.ensures.1))
     (λ c. search rules)
-    (λ c. union-end _ _ _ _ _ _ _ _ _ _ c.before.loop.invariant.0 c.loop-test.false))
+    (λ c. union-end _ _ _ _ _ _ _ _ _ _ c.loop-i.invariant.0 c.loop-i-test.false))

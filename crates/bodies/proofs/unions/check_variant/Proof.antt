@@ -11,6 +11,6 @@ check_variant_spec =
     (tie.spec
     (λ c κs. search rules)
     (λ c. search rules)
-    (λ c κs. (search rules, search rules, ready-later _ _ _ c.before.before.before.before.before.before.before.before.requires.2 (search rules), search rules))
+    (λ c κs. (search rules, search rules, ready-later _ _ _ c.requires.2 (search rules), search rules))
     (λ c. search rules)
     (λ c. (search variant_found_lem, search rules)))

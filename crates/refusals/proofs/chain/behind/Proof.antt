@@ -9,8 +9,8 @@ behind_spec =
     tie.close
     (tie.spec
     (λ c κs. search rules)
-    (λ c. behind-other _ _ _ _ c.before.kind.ensures c.if1.true)
+    (λ c. behind-other _ _ _ _ c.kind.ensures c.if-kind-ne-NAMED.true)
     (λ c κs. search rules)
-    (λ c. behind-undeclared _ _ _ _ c.before.before.before.kind.ensures c.before.before.if1.false _ c.before.declaration.ensures c.if2.true)
+    (λ c. behind-undeclared _ _ _ _ c.kind.ensures c.if-kind-ne-NAMED.false _ c.declaration.ensures c.if-declaration-eq0.true)
     (λ c κs. search rules)
-    (λ c. behind-target _ _ _ _ c.before.before.before.before.kind.ensures c.before.before.before.if1.false _ c.before.before.declaration.ensures _ c.before.if2.false c.target.ensures))
+    (λ c. behind-target _ _ _ _ c.kind.ensures c.if-kind-ne-NAMED.false _ c.declaration.ensures _ c.if-declaration-eq0.false c.target.ensures))

@@ -5,10 +5,10 @@ use Rattle.refusals.proofs.ChainEnds.{Walk, walk-starts, walk_ends, walk-again, 
 use Rattle.refusals.proofs.chain.chain_end.Statement.{statement}
 use Rattle.refusals.proofs.chain.chain_end.Tie as tie
 
-abbrev invariant-loop : tie.invariant-loop
+abbrev invariant-loop : tie.invariant-loop-left
 invariant-loop sheet table t at₀ left₀ at left = Walk table sheet t left at × (at < 65535)
 
-abbrev decreases-loop : tie.decreases-loop
+abbrev decreases-loop : tie.decreases-loop-left
 decreases-loop sheet table t at₀ left₀ at left = left
 
 pub chain_end_spec : {M : Type 1} → statement M

@@ -13,12 +13,12 @@ use Rattle.refusals.proofs.ChainEnds.{kept-itself, kept-through, kept-nowhere}
 use Rattle.refusals.proofs.chain.endless.Statement.{statement}
 use Rattle.refusals.proofs.chain.endless.Tie as tie
 
-abbrev invariant-loop : tie.invariant-loop
+abbrev invariant-loop : tie.invariant-loop-i
 invariant-loop sheet table₀ end n i₀ table i =
     (n ≡ length sheet / 32) × (i ≤ end) × Kept sheet table₀ table
     × (endless_chain (context_by table₀ sheet) i (view_of sheet i n) ≡ endless_by table₀ sheet)
 
-abbrev decreases-loop : tie.decreases-loop
+abbrev decreases-loop : tie.decreases-loop-i
 decreases-loop sheet table₀ end n i₀ table i = end - i
 
 pub endless_spec : {M : Type 1} → statement M
@@ -29,26 +29,26 @@ endless_spec =
     decreases-loop
     (λ c κs. search rules)
     (λ c. search (rules, kept-itself, endless-starts))
-    (λ c κs. (c.before.before.loop.invariant.2.lasts, omega arith, omega arith))
+    (λ c κs. (c.loop-i.invariant.2.lasts, omega arith, omega arith))
     (λ c. search rules)
     (λ c.
-    let turn = c.before.before.before.before in
-    let inv = turn.loop.invariant in
-    let found = c.before.is_endless.ensures in
-    let here = kept-nowhere _ _ _ turn.loop.i turn.before.records.result _ inv.2 found.0 in
-    (endless-found _ _ _ _ _ _ inv.3 here (omega arith) c.if1.true, (kept-through _ _ _ _ inv.2 found.1).same))
+    let turn = c in
+    let inv = turn.loop-i.invariant in
+    let found = c.is_endless.ensures in
+    let here = kept-nowhere _ _ _ turn.loop-i.i turn.records-n.result _ inv.2 found.0 in
+    (endless-found _ _ _ _ _ _ inv.3 here (omega arith) c.if-is_endless.true, (kept-through _ _ _ _ inv.2 found.1).same))
     (λ c. search rules)
     (λ c. search rules)
     (λ c.
-    let turn = c.before.before.before.before in
-    let inv = turn.loop.invariant in
-    let found = c.before.is_endless.ensures in
-    let here = kept-nowhere _ _ _ turn.loop.i turn.before.records.result _ inv.2 found.0 in (
+    let turn = c in
+    let inv = turn.loop-i.invariant in
+    let found = c.is_endless.ensures in
+    let here = kept-nowhere _ _ _ turn.loop-i.i turn.records-n.result _ inv.2 found.0 in (
       inv.0,
       omega arith,
       kept-through _ _ _ _ inv.2 found.1,
-      endless-again _ _ _ _ _ _ inv.3 here (omega arith) c.if1.false,
+      endless-again _ _ _ _ _ _ inv.3 here (omega arith) c.if-is_endless.false,
     ))
     (λ c.
-    let inv = c.before.loop.invariant in
-    (past_end _ _ _ _ c.before.before.before.before.requires.1 _ _ inv.0 inv.3 c.loop-test.false, inv.2.same)))
+    let inv = c.loop-i.invariant in
+    (past_end _ _ _ _ c.requires.1 _ _ inv.0 inv.3 c.loop-i-test.false, inv.2.same)))

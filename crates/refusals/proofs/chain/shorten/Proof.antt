@@ -6,10 +6,10 @@ use Rattle.refusals.proofs.ChainEnds.{kept-itself, shortened, shortened-again}
 use Rattle.refusals.proofs.chain.shorten.Statement.{statement}
 use Rattle.refusals.proofs.chain.shorten.Tie as tie
 
-abbrev invariant-loop : tie.invariant-loop
+abbrev invariant-loop : tie.invariant-loop-left
 invariant-loop sheet table₀ t end at₀ left₀ table at left = Kept sheet table₀ table × EndsAt table sheet at (end - 1)
 
-abbrev decreases-loop : tie.decreases-loop
+abbrev decreases-loop : tie.decreases-loop-left
 decreases-loop sheet table₀ t end at₀ left₀ table at left = left
 
 pub shorten_spec : {M : Type 1} → statement M

@@ -1,5 +1,6 @@
 -- `part_step` asks whether the record is the part at the top of the stack.
-use mathlib.Core.Path.{refl}
+use mathlib.Core.Path.{refl, ap}
+use mathlib.Core.Bool.{not}
 use borrow.Author.Rules.{rules}
 use Rattle.refusals.proofs.PartSteps.{step-none, type-taken, type-other, other-taken, part-other, top_within}
 use Rattle.refusals.proofs.due.part_step.Statement.{statement}
@@ -16,18 +17,18 @@ part_step_spec =
     (λ c. search laws)
     (λ c κs. search rules)
     (λ c κs.
-    let asked = c.before.before.before in
-    type-taken _ _ _ _ asked.before.before.before.requires asked.before.before.if1.false refl asked.if2.true _ c.before.before.is_type.ensures c.before.if3.true)
+    let asked = c in
+    type-taken _ _ _ _ asked.requires asked.if-height-eq0.false refl asked.if-part-eq0.true _ c.is_type.ensures c.if-is_type.true)
     (λ c. search rules)
     (λ c.
-    let asked = c.before.before in
-    (type-other _ _ _ _ asked.before.before.before.requires asked.before.before.if1.false refl asked.if2.true _ c.before.is_type.ensures c.if3.false, tt))
+    let asked = c in
+    (type-other _ _ _ _ asked.requires asked.if-height-eq0.false refl asked.if-part-eq0.true _ c.is_type.ensures c.if-is_type.false, tt))
     (λ c κs. search rules)
     (λ c.
-    let asked = c.before.before in
-    (part-other _ _ _ _ asked.before.before.before.requires asked.before.before.if1.false refl _ c.before.is_part.ensures c.if4.true, tt))
+    let asked = c in
+    (part-other _ _ _ _ asked.requires asked.if-height-eq0.false refl _ c.is_part.ensures (ap not c.if-not-is_part.true), tt))
     (λ c κs. search rules)
     (λ c κs.
-    let asked = c.before.before.before.before in
-    other-taken _ _ _ _ asked.before.before.before.requires asked.before.before.if1.false refl _ c.before.before.before.is_part.ensures _ c.before.before.if4.false c.before.part_of.ensures)
+    let asked = c in
+    other-taken _ _ _ _ asked.requires asked.if-height-eq0.false refl _ c.is_part.ensures _ (ap not c.if-not-is_part.false) c.part_of-parts.ensures)
     (λ c. search rules))

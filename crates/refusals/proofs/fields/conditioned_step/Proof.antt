@@ -12,4 +12,4 @@ conditioned_step_spec =
     (tie.spec
     (λ c κs. search laws)
     (λ c κs. search laws)
-    (λ c. conditioned-moved c.before.part_step.result c.moved.result _ _ c.before.part_step.ensures c.moved.ensures))
+    (λ c. conditioned-moved c.part_step.result c.moved.result _ _ c.part_step.ensures c.moved.ensures))

@@ -12,5 +12,5 @@ moved_spec =
     (tie.spec
     (λ c. search laws)
     (λ c. search laws)
-    (λ c. moved_on _ _ _ c.before.step.given.1)
-    (λ c. moved-fault _ _ _ c.before.step2.given.1))
+    (λ c. moved_on _ _ _ c.in-To.is)
+    (λ c. moved-fault _ _ _ c.in-Fault.is))

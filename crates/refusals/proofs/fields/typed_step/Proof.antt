@@ -14,5 +14,5 @@ typed_step_spec =
     (λ c κs. search laws)
     (λ c κs. search laws)
     (λ c.
-    typed-moved c.before.before.before.before.args.kind _ c.before.before.type_step.result c.moved.result _ _
-    c.before.after_type.ensures c.before.before.type_step.ensures c.moved.ensures))
+    typed-moved c.args.kind _ c.type_step-step.result c.moved.result _ _
+    c.after_type-item.ensures c.type_step-step.ensures c.moved.ensures))

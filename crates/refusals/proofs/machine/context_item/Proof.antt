@@ -10,6 +10,6 @@ context_item_spec =
     tie.close
     (tie.spec
     (λ c κs. search rules)
-    (λ c. (c.type_due.ensures.0 ∙ newtype-declared c.before.before.before.args.kind c.before.before.before.args.sub c.before.before.if1.true, c.type_due.ensures.1))
+    (λ c. (c.type_due.ensures.0 ∙ newtype-declared c.args.kind c.args.sub c.if-kind-sub.true, c.type_due.ensures.1))
     (λ c κs. search rules)
-    (λ c. leads-at c.between.result _ _ _ _ (other-declared c.before.before.args.kind c.before.before.args.sub c.before.if1.false) c.before.before.requires c.between.ensures))
+    (λ c. leads-at c.between.result _ _ _ _ (other-declared c.args.kind c.args.sub c.if-kind-sub.false) c.requires c.between.ensures))

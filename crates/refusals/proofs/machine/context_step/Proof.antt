@@ -10,10 +10,10 @@ context_step_spec =
     tie.close
     (tie.spec
     (λ c κs. search rules)
-    (λ c. (c.context_item.ensures.0 ∙ context-item-taken _ _ _ _ _ c.before.before.before.if1.true c.before.before.if2.true, c.context_item.ensures.1))
-    (λ c. (context-item-fault _ _ _ _ _ c.before.if1.true c.if2.false, tt))
+    (λ c. (c.context_item.ensures.0 ∙ context-item-taken _ _ _ _ _ c.if-kind.true c.if-height-eq0.true, c.context_item.ensures.1))
+    (λ c. (context-item-fault _ _ _ _ _ c.if-kind.true c.if-height-eq0.false, tt))
     (λ c κs. search rules)
-    (λ c. (c.opened.ensures.0 ∙ head-taken _ _ _ _ _ c.before.before.before.before.if1.false c.before.before.before.if3.true c.before.before.if4.true, c.opened.ensures.1))
-    (λ c. (head-fault _ _ _ _ _ c.before.before.if1.false c.before.if3.true c.if4.false, tt))
+    (λ c. (c.opened.ensures.0 ∙ head-taken _ _ _ _ _ c.if-kind.false c.if-kind-eq-HEAD.true c.if-height-eq0-2.true, c.opened.ensures.1))
+    (λ c. (head-fault _ _ _ _ _ c.if-kind.false c.if-kind-eq-HEAD.true c.if-height-eq0-2.false, tt))
     (λ c κs. search rules)
-    (λ c. (c.inner_step.ensures.0 ∙ context-type _ _ _ _ _ c.before.before.before.if1.false c.before.before.if3.false, c.inner_step.ensures.1)))
+    (λ c. (c.inner_step.ensures.0 ∙ context-type _ _ _ _ _ c.if-kind.false c.if-kind-eq-HEAD.false, c.inner_step.ensures.1)))

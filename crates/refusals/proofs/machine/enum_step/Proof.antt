@@ -10,8 +10,8 @@ enum_step_spec =
     (tie.spec
     (λ c κs. search rules)
     (λ c κs. search rules)
-    (λ c. leads-on c.between.result _ _ (enum-begins c.before.before.before.args.kind _ c.before.before.starts_item.ensures c.before.if1.true c.before.before.before.args.backed) c.between.ensures)
-    (λ c. fault-leads _ (second-backing _ _ c.before.before.starts_item.ensures c.before.if1.false _ c.if2.true))
+    (λ c. leads-on c.between.result _ _ (enum-begins c.args.kind _ c.starts_item.ensures c.if-starts_item.true c.args.backed) c.between.ensures)
+    (λ c. fault-leads _ (second-backing _ _ c.starts_item.ensures c.if-starts_item.false _ c.if-backed.true))
     (λ c κs. search rules)
-    (λ c. leads-on c.between2.result _ _ (backing-taken _ _ c.before.before.before.before.starts_item.ensures c.before.before.before.if1.false _ c.before.before.if2.false c.before.if3.true) c.between2.ensures)
-    (λ c. fault-leads _ (no-backing _ _ c.before.before.before.starts_item.ensures c.before.before.if1.false _ c.before.if2.false c.if3.false)))
+    (λ c. leads-on c.between-then-kind-eq-BACKING.result _ _ (backing-taken _ _ c.starts_item.ensures c.if-starts_item.false _ c.if-backed.false c.if-kind-eq-BACKING.true) c.between-then-kind-eq-BACKING.ensures)
+    (λ c. fault-leads _ (no-backing _ _ c.starts_item.ensures c.if-starts_item.false _ c.if-backed.false c.if-kind-eq-BACKING.false)))

@@ -10,5 +10,5 @@ flags_step_spec =
     (tie.spec
     (λ c κs. search rules)
     (λ c κs. search rules)
-    (λ c. leads-on c.between.result _ _ (flags-begin _ _ c.before.before.starts_item.ensures c.before.if1.true) c.between.ensures)
-    (λ c. fault-leads _ (flags-fault _ _ c.before.starts_item.ensures c.if1.false)))
+    (λ c. leads-on c.between.result _ _ (flags-begin _ _ c.starts_item.ensures c.if-starts_item.true) c.between.ensures)
+    (λ c. fault-leads _ (flags-fault _ _ c.starts_item.ensures c.if-starts_item.false)))

@@ -23,5 +23,5 @@ in_fields_spec =
     (λ c. search rules)
     (λ c. search rules)
     (λ c. search rules)
-    (λ c. variant_fields _ _ _ c.before.enum-told7.given.1 c.starts_item.ensures)
+    (λ c. variant_fields _ _ _ c.in-Variant.is c.starts_item.ensures)
     (λ c. search rules))

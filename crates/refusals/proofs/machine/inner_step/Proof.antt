@@ -12,4 +12,4 @@ inner_step_spec =
     (λ c κs. search rules)
     (λ c κs. search rules)
     (λ c κs. search rules)
-    (λ c. inner-stepped _ c.before.before.before.before.before.args.kind _ c.before.before.before.before.before.args.item _ c.before.type_step.result c.settled.result _ _ c.before.before.before.before.is_bits.ensures c.before.before.before.after_type.ensures c.before.type_step.ensures c.settled.ensures))
+    (λ c. inner-stepped _ c.args.kind _ c.args.item _ c.type_step.result c.settled.result _ _ c.is_bits-bits.ensures c.after_type-next.ensures c.type_step.ensures c.settled.ensures))

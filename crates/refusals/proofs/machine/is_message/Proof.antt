@@ -17,7 +17,7 @@ is_message_spec =
     (λ c. search rules)
     (λ c. search rules)
     (λ c. λ e. absurd (false≢true e))
-    (λ c. λ e. c.enum-told2.given.1)
+    (λ c. λ e. c.in-Message.is)
     (λ c. λ e. absurd (false≢true e))
     (λ c. λ e. absurd (false≢true e))
     (λ c. λ e. absurd (false≢true e))

@@ -17,6 +17,6 @@ is_typed_spec =
     (λ c. λ e. absurd (false≢true e))
     (λ c. λ e. absurd (false≢true e))
     (λ c. λ e. absurd (false≢true e))
-    (λ c. λ e. c.enum-told4.given.1)
+    (λ c. λ e. c.in-Typed.is)
     (λ c. λ e. absurd (false≢true e))
     (λ c. λ e. absurd (false≢true e)))

@@ -10,12 +10,12 @@ opened_spec =
     tie.close
     (tie.spec
     (λ c κs. search rules)
-    (λ c. leads-at c.between.result _ _ _ _ (opens-message _ c.before.if1.true) c.before.before.requires c.between.ensures)
+    (λ c. leads-at c.between.result _ _ _ _ (opens-message _ c.if-sub-eq0.true) c.requires c.between.ensures)
     (λ c κs. search rules)
-    (λ c. leads-at c.between2.result _ _ _ _ (opens-enum _ c.before.if2.true) c.before.before.before.requires c.between2.ensures)
+    (λ c. leads-at c.between-then-sub-eq1.result _ _ _ _ (opens-enum _ c.if-sub-eq1.true) c.requires c.between-then-sub-eq1.ensures)
     (λ c κs. search rules)
-    (λ c. leads-at c.between3.result _ _ _ _ (opens-flags _ c.before.if3.true) c.before.before.before.before.requires c.between3.ensures)
+    (λ c. leads-at c.between-then-sub-eq2.result _ _ _ _ (opens-flags _ c.if-sub-eq2.true) c.requires c.between-then-sub-eq2.ensures)
     (λ c κs. search rules)
-    (λ c. leads-at c.between4.result _ _ _ _ (opens-union _ c.before.if4.true) c.before.before.before.before.before.requires c.between4.ensures)
+    (λ c. leads-at c.between-then-sub-eq3.result _ _ _ _ (opens-union _ c.if-sub-eq3.true) c.requires c.between-then-sub-eq3.ensures)
     (λ c κs. search rules)
-    (λ c. (c.type_due.ensures.0 ∙ opens-newtype _ c.before.before.before.before.before.if1.false c.before.before.before.before.if2.false c.before.before.before.if3.false c.before.before.if4.false, c.type_due.ensures.1)))
+    (λ c. (c.type_due.ensures.0 ∙ opens-newtype _ c.if-sub-eq0.false c.if-sub-eq1.false c.if-sub-eq2.false c.if-sub-eq3.false, c.type_due.ensures.1)))

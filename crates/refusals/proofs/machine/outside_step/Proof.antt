@@ -10,5 +10,5 @@ outside_step_spec =
     (tie.spec
     (λ c κs. search rules)
     (λ c κs. search rules)
-    (λ c. leads-on c.union_item.result _ _ (outside-begins _ _ c.before.before.starts_item.ensures c.before.if1.true) c.union_item.ensures)
-    (λ c. fault-leads _ (outside-fault _ _ c.before.starts_item.ensures c.if1.false)))
+    (λ c. leads-on c.union_item.result _ _ (outside-begins _ _ c.starts_item.ensures c.if-starts_item.true) c.union_item.ensures)
+    (λ c. fault-leads _ (outside-fault _ _ c.starts_item.ensures c.if-starts_item.false)))

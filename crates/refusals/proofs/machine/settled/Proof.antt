@@ -10,5 +10,5 @@ settled_spec =
     (tie.spec
     (λ c. search rules)
     (λ c. search rules)
-    (λ c. settled_on _ _ _ _ c.before.step.given.1)
-    (λ c. settled-fault _ _ _ _ c.before.step2.given.1))
+    (λ c. settled_on _ _ _ _ c.in-To.is)
+    (λ c. settled-fault _ _ _ _ c.in-Fault.is))

@@ -14,18 +14,18 @@ step_spec =
     (λ c κs. search rules)
     (λ c κs. search rules)
     (λ c.
-    let next = c.before.before.before in
-    let asked = next.before.before in
-    type-stepped asked.before.args.s _ _ _ (asked.type_goes_on.ensures next.before.if1.true) _ c.before.type_step.result c.settled.result _
-    next.after_type.ensures c.before.type_step.ensures c.settled.ensures)
+    let next = c in
+    let asked = next in
+    type-stepped asked.args.s _ _ _ (asked.type_goes_on.ensures next.if-type_goes_on.true) _ c.type_step.result c.settled.result _
+    next.after_type-next.ensures c.type_step.ensures c.settled.ensures)
     (λ c κs. search rules)
     (λ c κs. search rules)
     (λ c κs. search rules)
     (λ c.
-    let asked = c.before.before.before.before in
-    fields-stepped asked.before.before.before.args.s _ _ _ c.before.field_list_step.result c.within_body.result _
-    (sym asked.in_fields.ensures ∙ c.before.before.before.if2.true) c.before.field_list_step.ensures c.within_body.ensures)
+    let asked = c in
+    fields-stepped asked.args.s _ _ _ c.field_list_step.result c.within_body.result _
+    (sym asked.in_fields.ensures ∙ c.if-in_fields.true) c.field_list_step.ensures c.within_body.ensures)
     (λ c κs.
-    let asked = c.before.before in
-    (asked.before.before.before.requires, sym asked.in_fields.ensures ∙ c.before.if2.false))
+    let asked = c in
+    (asked.requires, sym asked.in_fields.ensures ∙ c.if-in_fields.false))
     (λ c. search rules))

@@ -9,6 +9,6 @@ union_item_spec =
     tie.close
     (tie.spec
     (λ c κs. search rules)
-    (λ c. leads-on c.between.result _ _ (union-variant _ c.before.if1.true) c.between.ensures)
+    (λ c. leads-on c.between.result _ _ (union-variant _ c.if-kind-eq-VARIANT.true) c.between.ensures)
     (λ c κs. search rules)
-    (λ c. leads-on c.between2.result _ _ (union-tombstone _ c.before.if1.false) c.between2.ensures))
+    (λ c. leads-on c.between-2.result _ _ (union-tombstone _ c.if-kind-eq-VARIANT.false) c.between-2.ensures))

@@ -12,8 +12,8 @@ variant_item_spec =
     (λ c κs. search rules)
     (λ c κs. search rules)
     (λ c.
-    let asked = c.before.before in
-    λ stack s. leads-at c.union_item.result _ _ stack _ (variant-begins _ _ refl asked.before.requires asked.before.args.item stack _ _ asked.is_done.ensures c.before.if1.true) s c.union_item.ensures)
+    let asked = c in
+    λ stack s. leads-at c.union_item.result _ _ stack _ (variant-begins _ _ refl asked.requires asked.args.item stack _ _ asked.is_done.ensures c.if-is_done.true) s c.union_item.ensures)
     (λ c.
-    let asked = c.before in
-    λ stack s. (variant-fault _ _ refl asked.before.requires asked.before.args.item stack _ _ asked.is_done.ensures c.if1.false, tt)))
+    let asked = c in
+    λ stack s. (variant-fault _ _ refl asked.requires asked.args.item stack _ _ asked.is_done.ensures c.if-is_done.false, tt)))

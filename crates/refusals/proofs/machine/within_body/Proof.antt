@@ -10,5 +10,5 @@ within_body_spec =
     (tie.spec
     (λ c. search rules)
     (λ c. search rules)
-    (λ c. taken-on _ _ _ _ c.before.step.given.1)
-    (λ c. taken-fault _ _ _ c.before.step2.given.1))
+    (λ c. taken-on _ _ _ _ c.in-To.is)
+    (λ c. taken-fault _ _ _ c.in-Fault.is))

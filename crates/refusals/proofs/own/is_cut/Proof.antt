@@ -13,6 +13,6 @@ is_cut_spec =
     (λ c κs. search rules)
     (λ c κs. search rules)
     (λ c.
-    let asked = c.before.before.before in
-    cut-named _ _ _ asked.before.name_end.ensures _ _ _ asked.if1.true c.before.before.kind.ensures c.before.byte.ensures c.is_named.ensures)
-    (λ c. name-fits _ _ _ c.before.name_end.ensures c.if1.false))
+    let asked = c in
+    cut-named _ _ _ asked.name_end.ensures _ _ _ asked.if-names-name_end.true c.kind.ensures c.byte.ensures c.is_named.ensures)
+    (λ c. name-fits _ _ _ c.name_end.ensures c.if-names-name_end.false))

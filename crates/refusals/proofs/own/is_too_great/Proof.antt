@@ -12,6 +12,6 @@ is_too_great_spec =
     (λ c κs. search rules)
     (λ c κs. search rules)
     (λ c.
-    let asked = c.before.before in
-    great-read _ _ asked.before.value.ensures _ _ asked.if1.true c.before.kind.ensures c.has_ordinal.ensures)
-    (λ c. small-read _ _ c.before.value.ensures c.if1.false))
+    let asked = c in
+    great-read _ _ asked.value.ensures _ _ asked.if-value-gt-MAX_ORDINAL.true c.kind.ensures c.has_ordinal.ensures)
+    (λ c. small-read _ _ c.value.ensures c.if-value-gt-MAX_ORDINAL.false))

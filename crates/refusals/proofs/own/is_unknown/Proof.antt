@@ -15,4 +15,4 @@ is_unknown_spec =
     (λ c κs. search rules)
     (λ c. search rules)
     (λ c κs. search rules)
-    (λ c. unknown-read _ _ _ _ _ c.before.before.before.kind.ensures c.before.before.byte.ensures (search rules) c.before.sub_limit.ensures c.is_clean.ensures))
+    (λ c. unknown-read _ _ _ _ _ c.kind-kind.ensures c.byte-sub.ensures (search rules) c.sub_limit-limit.ensures c.is_clean.ensures))

@@ -68,4 +68,4 @@ sub_limit_spec =
     (λ c. search laws)
     (λ c. search laws)
     (λ c. search laws)
-    (λ c. at_rest _ (search rules) c.match.rest))
+    (λ c. at_rest c.args.kind (search rules) (search rules)))

@@ -10,12 +10,12 @@ declared_spec =
     (tie.spec
     (λ c. search rules)
     (λ c. search rules)
-    (λ c. declared-other _ _ _ _ _ _ c.before.before.step2.given.1 c.if1.true)
+    (λ c. declared-other _ _ _ _ _ _ c.in-To.is c.if-kind-ne-DECLARATION.true)
     (λ c κs. search rules)
     (λ c.
-    let asked = c.before.before in
-    declared-second _ _ _ _ _ _ asked.before.before.step2.given.1 asked.if1.false _ c.before.is_second.ensures c.if2.true)
-    (λ c. declared-fault _ _ _ c.before.step.given.1)
+    let asked = c in
+    declared-second _ _ _ _ _ _ asked.in-To.is asked.if-kind-ne-DECLARATION.false _ c.is_second.ensures c.if-is_second.true)
+    (λ c. declared-fault _ _ _ c.in-Fault.is)
     (λ c.
-    let asked = c.before.before in
-    declared-first _ _ _ _ _ _ asked.before.before.step2.given.1 asked.if1.false _ c.before.is_second.ensures c.if2.false))
+    let asked = c in
+    declared-first _ _ _ _ _ _ asked.in-To.is asked.if-kind-ne-DECLARATION.false _ c.is_second.ensures c.if-is_second.false))

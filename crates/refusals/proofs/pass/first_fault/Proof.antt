@@ -14,13 +14,13 @@ use Rattle.refusals.proofs.Passes.{pass-fault, pass-again, pass-done, pass-early
 use Rattle.refusals.proofs.pass.first_fault.Statement.{statement}
 use Rattle.refusals.proofs.pass.first_fault.Tie as tie
 
-abbrev invariant-loop : tie.invariant-loop
+abbrev invariant-loop : tie.invariant-loop-i
 invariant-loop sheet names table due₀ n s₀ i₀ end₀ due s i end =
     (n ≡ length sheet / 32) × (i ≤ n) × Sound due s.height
     × (first_fault_by (is_second table) (state_of s due) i (drop i (records sheet names)) ≡ first_fault_by (is_second table) Grammar.start 0 (records sheet names))
     × Ended sheet end i
 
-abbrev decreases-loop : tie.decreases-loop
+abbrev decreases-loop : tie.decreases-loop-i
 decreases-loop sheet names table due₀ n s₀ i₀ end₀ due s i end = n - i
 
 pub first_fault_spec : {M : Type 1} → statement M
@@ -31,55 +31,55 @@ first_fault_spec =
     decreases-loop
     (λ c κs. search rules)
     (λ c κs. search rules)
-    (λ c. (c.before.records.ensures, search rules, starts-sound _ c.start.ensures, pass-starts _ _ _ _ _ c.start.ensures, none-ended _))
+    (λ c. (c.records-n.ensures, search rules, starts-sound _ c.start-s.ensures, pass-starts _ _ _ _ _ c.start-s.ensures, none-ended _))
     (λ c κs.
-    let loop = c.before.before.loop in
-    (loop.invariant.2, omega arith, count-below _ _ _ loop.invariant.0 c.before.loop-test.true))
+    let loop = c.loop-i in
+    (loop.invariant.2, omega arith, count-below _ _ _ loop.invariant.0 c.loop-i-test.true))
     (λ c. search rules)
     (λ c. omega arith)
     (λ c.
-    let turn = c.before.before.before.before.before in
-    let loop = turn.before.loop in
-    let step = c.before.before.before.record_step in (
-      pass-fault _ _ _ _ _ _ loop.invariant.3 _ (count-below _ _ _ loop.invariant.0 turn.loop-test.true)
-          (fault-found step.result _ _ step.ensures _ c.before.why.given.1),
+    let turn = c in
+    let loop = turn.loop-i in
+    let step = c.record_step in (
+      pass-fault _ _ _ _ _ _ loop.invariant.3 _ (count-below _ _ _ loop.invariant.0 turn.loop-i-test.true)
+          (fault-found step.result _ _ step.ensures _ c.why-1.given.1),
       tt,
     ))
     (λ c. search rules)
     (λ c κs.
-    let turn = c.before.before.before.before.before in
-    (turn.before.loop.invariant.4, omega arith))
+    let turn = c in
+    (turn.loop-i.invariant.4, omega arith))
     (λ c. omega arith)
     (λ c κs.
-    let told = c.before.before in
-    let step = told.before.before.before.record_step in
-    let loop = told.before.before.before.before.before.before.loop in
-    (sound-found step.result _ _ step.ensures _ _ _ told.before.body.given.1, omega arith, loop.invariant.0))
-    (λ c. omega (arith, c.run_end.ensures.least))
+    let told = c in
+    let step = told.record_step in
+    let loop = told.loop-i in
+    (sound-found step.result _ _ step.ensures _ _ _ told.body-1.given.1, omega arith, loop.invariant.0))
+    (λ c. omega (arith, c.run_end-i.ensures.least))
     (λ c.
-    let told = c.before.before.before in
-    let turn = told.before.before.before.before.before in
-    let loop = turn.before.loop in
-    let step = told.before.before.before.record_step in
-    let ran = c.run_end.ensures in (
+    let told = c in
+    let turn = told in
+    let loop = turn.loop-i in
+    let step = told.record_step in
+    let ran = c.run_end-i.ensures in (
       loop.invariant.0,
       omega (arith, ran.most),
       ran.sound,
-      ran.same _ ∙ pass-again _ _ _ _ _ _ loop.invariant.3 _ (count-below _ _ _ loop.invariant.0 turn.loop-test.true)
-          (state-found step.result _ _ step.ensures _ _ _ told.before.body.given.1),
-      ran.ended _ c.before.before.newtypes_end.ensures,
+      ran.same _ ∙ pass-again _ _ _ _ _ _ loop.invariant.3 _ (count-below _ _ _ loop.invariant.0 turn.loop-i-test.true)
+          (state-found step.result _ _ step.ensures _ _ _ told.body-1.given.1),
+      ran.ended _ c.newtypes_end-end.ensures,
     ))
     (λ c κs. search rules)
     (λ c.
-    let loop = c.before.before.before.loop in (
-      pass-done _ _ _ _ _ _ loop.invariant.3 _ (count-reached _ _ _ loop.invariant.0 c.before.before.loop-test.false)
-          (c.before.may_end.ensures loop.due) c.if1.true,
-      ends-all _ _ _ _ loop.invariant.4 loop.invariant.0 loop.invariant.1 c.before.before.loop-test.false,
+    let loop = c.loop-i in (
+      pass-done _ _ _ _ _ _ loop.invariant.3 _ (count-reached _ _ _ loop.invariant.0 c.loop-i-test.false)
+          (c.may_end.ensures loop.due-1) c.if-may_end.true,
+      ends-all _ _ _ _ loop.invariant.4 loop.invariant.0 loop.invariant.1 c.loop-i-test.false,
     ))
     (λ c. omega arith)
     (λ c.
-    let loop = c.before.before.before.loop in (
-      pass-early _ _ _ _ _ _ loop.invariant.3 _ _ (count-reached _ _ _ loop.invariant.0 c.before.before.loop-test.false) loop.invariant.1 loop.invariant.0
-          (c.before.may_end.ensures loop.due) c.if1.false,
+    let loop = c.loop-i in (
+      pass-early _ _ _ _ _ _ loop.invariant.3 _ _ (count-reached _ _ _ loop.invariant.0 c.loop-i-test.false) loop.invariant.1 loop.invariant.0
+          (c.may_end.ensures loop.due-1) c.if-may_end.false,
       tt,
     )))

@@ -14,7 +14,7 @@ grammar_step_spec =
     (λ c κs. search rules)
     (λ c κs. search rules)
     (λ c.
-    let asked = c.before.before.before in
-    let start = asked.before.before.before in
-    grammar-stepped _ (record_bytes start.args.sheet.now start.args.i) _ _ _ c.before.step.result c.declared.result _
-    asked.before.kind.ensures asked.byte.ensures c.before.step.ensures c.declared.ensures))
+    let asked = c in
+    let start = asked in
+    grammar-stepped _ (record_bytes start.args.sheet.now start.args.i) _ _ _ c.step-next.result c.declared.result _
+    asked.kind-kind.ensures asked.byte-sub.ensures c.step-next.ensures c.declared.ensures))

@@ -9,8 +9,8 @@ newtypes_end_spec =
     tie.close
     (tie.spec
     (λ c κs. search rules)
-    (λ c. other-kind-ends _ _ _ _ c.before.before.before.requires.0 c.before.kind.ensures c.if1.true)
+    (λ c. other-kind-ends _ _ _ _ c.requires.0 c.kind.ensures c.if-kind-ne-DECLARATION.true)
     (λ c κs. search rules)
-    (λ c. other-sub-ends _ _ _ _ c.before.before.before.before.before.requires.0 c.before.sub.ensures c.if2.true)
+    (λ c. other-sub-ends _ _ _ _ c.requires.0 c.sub.ensures c.if-sub-ne4.true)
     (λ c. search rules)
     (λ c. ends-here _ _))

@@ -11,27 +11,27 @@ pub refuse_spec : {M : Type 1} → statement M
 refuse_spec =
     tie.close
     (tie.spec
-    (λ c. (row-1 _ _ _ c.if1.true, same-itself _))
-    (λ c. (row-2 _ _ _ c.before.if1.false c.if2.true, same-itself _))
-    (λ c κs. short-sheet c.before.before.before.before.before.args.sheet.now c.before.before.if1.false)
+    (λ c. (row-1 _ _ _ c.if-sheet.true, same-itself _))
+    (λ c. (row-2 _ _ _ c.if-sheet.false c.if-names-gt-MAX_NAMES_LEN.true, same-itself _))
+    (λ c κs. short-sheet c.args.sheet.now c.if-sheet.false)
     (λ c. search rules)
     (λ c. search rules)
     (λ c κs.
-    let passed = c.before.before.before.before in
-    let short = passed.before.before.before in
-    let end = c.before.before.end.given.1 in (
-      short-sheet short.before.before.before.args.sheet.now short.if1.false,
+    let passed = c in
+    let short = passed in
+    let end = c.end-1.given.1 in (
+      short-sheet short.args.sheet.now short.if-sheet.false,
       ended-found passed.first_fault.result _ _ passed.first_fault.ensures.1 end,
-      passed-lasting _ _ _ short.before.before.before.requires short.if1.false passed.first_fault.result passed.first_fault.ensures.0 _ end,
+      passed-lasting _ _ _ short.requires short.if-sheet.false passed.first_fault.result passed.first_fault.ensures.0 _ end,
     ))
     (λ c.
-    let passed = c.before.before.before in
-    let asked = passed.before.before in
-    (rows-3-to-8 _ _ _ asked.before.if1.false asked.if2.false passed.first_fault.result passed.first_fault.ensures.0 _ _ c.before.refusal.given.1, same-itself _))
+    let passed = c in
+    let asked = passed in
+    (rows-3-to-8 _ _ _ asked.if-sheet.false asked.if-names-gt-MAX_NAMES_LEN.false passed.first_fault.result passed.first_fault.ensures.0 _ _ c.refusal-1.given.1, same-itself _))
     (λ c.
-    let passed = c.before.before.before.before.before in
-    let asked = passed.before.before in (
-      row-9 _ _ _ asked.before.if1.false asked.if2.false passed.first_fault.result passed.first_fault.ensures.0 _ _ c.before.before.before.end.given.1
+    let passed = c in
+    let asked = passed in (
+      row-9 _ _ _ asked.if-sheet.false asked.if-names-gt-MAX_NAMES_LEN.false passed.first_fault.result passed.first_fault.ensures.0 _ _ c.end-1.given.1
           c.endless.ensures.0,
       c.endless.ensures.1,
     )))

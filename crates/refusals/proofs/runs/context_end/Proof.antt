@@ -19,8 +19,8 @@ context_end_spec =
     (λ c. search rules)
     (λ c. search rules)
     (λ c. λ stack sound.
-    let start = c.before.before.before.before.before.before in
-    ran-imports _ _ stack _ _ _ _ _ sound start.requires.1 (search rules) c.before.enum_told.given.1 c.plain_end.ensures)
+    let start = c in
+    ran-imports _ _ stack _ _ _ _ _ sound start.requires.1 (search rules) c.enum_told-1.given.1 c.plain_end.ensures)
     (λ c. λ stack sound. search laws)
     (λ c. λ stack sound. search laws)
     (λ c. λ stack sound. search laws)

@@ -18,11 +18,11 @@ is_plain_spec =
     (λ c κs. search rules)
     (λ c. search rules)
     (λ c. λ h.
-    let read = c.before.before.before in
-    rw c.before.enum_told.given.1 (plain-named _ _ _ _ _ read.before.byte.ensures read.byte2.ensures Imports 2 _ (λ n e. e) c.name_end.ensures h))
+    let read = c in
+    rw c.in-Imports.is (plain-named _ _ _ _ _ read.byte-kind.ensures read.byte-clean.ensures Imports 2 _ (λ n e. e) c.name_end.ensures h))
     (λ c. λ h.
-    let read = c.before.before.before in
-    rw c.before.enum-told2.given.1 (plain-named _ _ _ _ _ read.before.byte.ensures read.byte2.ensures BitNames 22 _ (λ n e. e) c.name-end2.ensures h))
+    let read = c in
+    rw c.in-BitNames.is (plain-named _ _ _ _ _ read.byte-kind.ensures read.byte-clean.ensures BitNames 22 _ (λ n e. e) c.name_end-in-BitNames.ensures h))
     (λ c. λ h.
-    let read = c.before.before in
-    rw c.enum-told3.given.1 (plain-nest _ _ _ _ _ read.before.byte.ensures read.byte2.ensures h)))
+    let read = c in
+    rw c.in-Nests.is (plain-nest _ _ _ _ _ read.byte-kind.ensures read.byte-clean.ensures h)))

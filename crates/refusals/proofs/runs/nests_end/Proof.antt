@@ -15,25 +15,25 @@ nests_end_spec =
     (tie.spec
     (λ c. search laws)
     (λ c. omega arith)
-    (λ c. omega (arith, sound-height _ _ c.before.before.before.requires.0))
+    (λ c. omega (arith, sound-height _ _ c.requires.0))
     (λ c. search laws)
     (λ c.
-    let start = c.before.before.before.before.before in
+    let start = c in
     omega (arith, start.requires.0.bounded (start.args.height - 1) (omega arith)))
     (λ c. omega arith)
     (λ c. omega arith)
     (λ c κs. search rules)
-    (λ c κs. (c.least.ensures.2 _ (omega arith) (omega arith), omega arith))
+    (λ c κs. (c.least-limit.ensures.2 _ (omega arith) (omega arith), omega arith))
     (λ c. omega arith)
     (λ c. omega arith)
     (λ c. omega arith)
     (λ c.
-    let start = c.before.before.before.before.before.before.before in
+    let start = c in
     omega (arith, start.requires.0.bounded (start.args.height - 1) (omega arith)))
-    (λ c. omega (arith, sound-height _ _ c.before.before.before.before.before.before.before.requires.0))
+    (λ c. omega (arith, sound-height _ _ c.requires.0))
     (λ c.
-    let asked = c.before.before in
-    let start = asked.before.before.before.before.before in
-    let limit = c.before.least.ensures in
-    ran-nests _ _ _ _ _ _ _ _ start.requires.0 asked.before.before.if1.false asked.if2.false c.plain_end.ensures.0 c.plain_end.ensures.1 limit.0
-    limit.1 start.requires.2 c.plain_end.ensures.2))
+    let asked = c in
+    let start = asked in
+    let limit = c.least-limit.ensures in
+    ran-nests _ _ _ _ _ _ _ _ start.requires.0 asked.if-height-eq0.false asked.if-entry-ne0.false c.plain_end-end.ensures.0 c.plain_end-end.ensures.1 limit.0
+    limit.1 start.requires.2 c.plain_end-end.ensures.2))

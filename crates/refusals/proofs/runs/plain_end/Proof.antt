@@ -8,10 +8,10 @@ use Rattle.refusals.proofs.PlainRuns.{plain-next}
 use Rattle.refusals.proofs.runs.plain_end.Statement.{statement}
 use Rattle.refusals.proofs.runs.plain_end.Tie as tie
 
-abbrev invariant-loop : tie.invariant-loop
+abbrev invariant-loop : tie.invariant-loop-j
 invariant-loop sheet names run i n j₀ j = (i ≤ j) × (j ≤ n) × ((k : ℕ) → i ≤ k → k < j → Plain run sheet names k)
 
-abbrev decreases-loop : tie.decreases-loop
+abbrev decreases-loop : tie.decreases-loop-j
 decreases-loop sheet names run i n j₀ j = n - j
 
 pub plain_end_spec : {M : Type 1} → statement M
@@ -22,10 +22,10 @@ plain_end_spec =
     decreases-loop
     (λ c. (omega arith, search rules, λ k l m. absurd (omega arith)))
     (λ c κs. omega arith)
-    (λ c. c.before.before.before.loop.invariant)
+    (λ c. c.loop-j.invariant)
     (λ c. omega arith)
     (λ c. omega arith)
     (λ c.
-    let loop = c.before.before.before.loop in
-    (omega arith, omega arith, plain-next _ _ _ _ _ loop.invariant.2 (c.before.is_plain.ensures (not-false _ c.if1.false))))
-    (λ c. c.before.loop.invariant))
+    let loop = c.loop-j in
+    (omega arith, omega arith, plain-next _ _ _ _ _ loop.invariant.2 (c.is_plain.ensures c.if-not-is_plain.false)))
+    (λ c. c.loop-j.invariant))
