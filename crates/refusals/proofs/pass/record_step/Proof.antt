@@ -12,5 +12,5 @@ record_step_spec =
     (λ c. search rules)
     (λ c. search rules)
     (λ c κs. search rules)
-    (λ c. (own_first _ _ _ _ c.own_fault.result c.own_fault.ensures _ c.why-1.given.1, tt))
-    (λ c. (grammar-then _ _ _ _ c.own_fault.result c.own_fault.ensures _ c.enum_told-1.given.1 c.grammar_step.ensures.0, c.grammar_step.ensures.1)))
+    (λ c. (own_first _ _ _ _ c.own_fault.result c.own_fault.ensures _ c.in-Fault.is, tt))
+    (λ c. (grammar-then _ _ _ _ c.own_fault.result c.own_fault.ensures _ c.in-Sound.is c.grammar_step.ensures.0, c.grammar_step.ensures.1)))

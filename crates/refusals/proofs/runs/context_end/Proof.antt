@@ -20,7 +20,7 @@ context_end_spec =
     (λ c. search rules)
     (λ c. λ stack sound.
     let start = c in
-    ran-imports _ _ stack _ _ _ _ _ sound start.requires.1 (search rules) c.enum_told-1.given.1 c.plain_end.ensures)
+    ran-imports _ _ stack _ _ _ _ _ sound start.requires.1 (search rules) c.in-Between.is c.plain_end.ensures)
     (λ c. λ stack sound. search laws)
     (λ c. λ stack sound. search laws)
     (λ c. λ stack sound. search laws)
