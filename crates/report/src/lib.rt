@@ -1,5 +1,6 @@
 // The lines that the program prints of an answer and its list.
 #![tactic(auto)]
+
 mod answer;
 mod decode;
 mod lines;

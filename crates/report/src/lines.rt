@@ -13,9 +13,9 @@ fn severity_letter(severity: u8) -> u8
     ensures { result ≡ severity_letter severity }
 {
     if severity == Violation::ERROR {
-        return b'e';
+        return b'E';
     }
-    b'w'
+    b'W'
 }
 
 // Puts the line of a violation: class, letter, offset and length.

@@ -1,5 +1,6 @@
 // The check of a declaration: a sheet and a names text are turned down, or every violation is listed.
 #![tactic(auto)]
+
 ghost use Rattle.validate.specs.Answered.{Answered, IsBytes};
 
 mod values;

@@ -42,7 +42,7 @@ first_fault_spec =
     let loop = turn.loop-i in
     let step = c.record_step in (
       pass-fault _ _ _ _ _ _ loop.invariant.3 _ (count-below _ _ _ loop.invariant.0 turn.loop-i-test.true)
-          (fault-found step.result _ _ step.ensures _ c.why-1.given.1),
+          (fault-found step.result _ _ step.ensures _ c.in-Fault.is),
       tt,
     ))
     (λ c. search rules)
@@ -54,7 +54,7 @@ first_fault_spec =
     let told = c in
     let step = told.record_step in
     let loop = told.loop-i in
-    (sound-found step.result _ _ step.ensures _ _ _ told.body-1.given.1, omega arith, loop.invariant.0))
+    (sound-found step.result _ _ step.ensures _ _ _ told.in-To.is, omega arith, loop.invariant.0))
     (λ c. omega (arith, c.run_end-i.ensures.least))
     (λ c.
     let told = c in
@@ -66,20 +66,20 @@ first_fault_spec =
       omega (arith, ran.most),
       ran.sound,
       ran.same _ ∙ pass-again _ _ _ _ _ _ loop.invariant.3 _ (count-below _ _ _ loop.invariant.0 turn.loop-i-test.true)
-          (state-found step.result _ _ step.ensures _ _ _ told.body-1.given.1),
+          (state-found step.result _ _ step.ensures _ _ _ told.in-To.is),
       ran.ended _ c.newtypes_end-end.ensures,
     ))
     (λ c κs. search rules)
     (λ c.
     let loop = c.loop-i in (
       pass-done _ _ _ _ _ _ loop.invariant.3 _ (count-reached _ _ _ loop.invariant.0 c.loop-i-test.false)
-          (c.may_end.ensures loop.due-1) c.if-may_end.true,
+          (c.may_end.ensures loop.due) c.if-may_end.true,
       ends-all _ _ _ _ loop.invariant.4 loop.invariant.0 loop.invariant.1 c.loop-i-test.false,
     ))
     (λ c. omega arith)
     (λ c.
     let loop = c.loop-i in (
       pass-early _ _ _ _ _ _ loop.invariant.3 _ _ (count-reached _ _ _ loop.invariant.0 c.loop-i-test.false) loop.invariant.1 loop.invariant.0
-          (c.may_end.ensures loop.due-1) c.if-may_end.false,
+          (c.may_end.ensures loop.due) c.if-may_end.false,
       tt,
     )))

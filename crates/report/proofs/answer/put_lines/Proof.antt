@@ -8,15 +8,11 @@ pub put_lines_spec : {M : Type 1} → statement M
 put_lines_spec =
     tie.close
     (tie.spec
-    (λ c. search rules)
-    (λ c. search rules)
     (λ c κs. search rules)
     (λ c. search rules)
     (λ c. search (rules, refused-lines))
     (λ c κs. search rules)
     (λ c κs. search rules)
-    (λ c. search rules)
-    (λ c. search rules)
     (λ c κs. search rules)
     (λ c. search rules)
     (λ c. search (rules, accepted-lines)))

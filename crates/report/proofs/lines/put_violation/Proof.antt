@@ -18,6 +18,6 @@ put_violation_spec =
     (λ c. simp length-set (omega arith))
     (λ c. search rules)
     (λ c κs. simp length-set (omega arith))
-    (λ c κs. omega (arith, simp length-set at c.before.before.before.put-number2.auto.0))
-    (λ c. omega (arith, simp length-set at c.before.before.before.before.before.before.put-number2.auto.0))
+    (λ c κs. omega (arith, simp length-set at c.put_number-at-2.auto.out))
+    (λ c. omega (arith, simp length-set at c.put_number-at-2.auto.out))
     (λ c. search (rules, violation-line)))

@@ -10,14 +10,14 @@ use Rattle.report.proofs.LineTexts.{lines_start, lines-turn, lines_end}
 use Rattle.report.proofs.lines.put_violations.Statement.{statement}
 use Rattle.report.proofs.lines.put_violations.Tie as tie
 
-abbrev invariant-loop : tie.invariant-loop
+abbrev invariant-loop : tie.invariant-loop-i
 invariant-loop out₀ list n at₀ i₀ out at i =
     (i ≤ n)
     × (length out ≡ length out₀)
     × (at ≤ 35 * i)
     × (put (violation_lines (n - i) (drop (12 * i) list)) (out, at) ≡ put (violation_lines n list) (out₀, 0))
 
-abbrev decreases-loop : tie.decreases-loop
+abbrev decreases-loop : tie.decreases-loop-i
 decreases-loop out₀ list n at₀ i₀ out at i = n - i
 
 pub put_violations_spec : {M : Type 1} → statement M

@@ -7,10 +7,10 @@ use Rattle.report.proofs.Digits.{Writing, writing-none, writing-left, writing_mo
 use Rattle.report.proofs.text.put_decimal.Statement.{statement}
 use Rattle.report.proofs.text.put_decimal.Tie as tie
 
-abbrev invariant-loop : tie.invariant-loop
+abbrev invariant-loop : tie.invariant-loop-rest
 invariant-loop out at x digits₀ i₀ rest₀ digits i rest = Writing x digits i rest
 
-abbrev decreases-loop : tie.decreases-loop
+abbrev decreases-loop : tie.decreases-loop-rest
 decreases-loop out at x digits₀ i₀ rest₀ digits i rest = rest
 
 pub put_decimal_spec : {M : Type 1} → statement M

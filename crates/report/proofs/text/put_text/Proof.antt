@@ -9,11 +9,11 @@ use Rattle.report.proofs.Puts.{text-start, text-turn, text-end}
 use Rattle.report.proofs.text.put_text.Statement.{statement}
 use Rattle.report.proofs.text.put_text.Tie as tie
 
-abbrev invariant-loop : tie.invariant-loop
+abbrev invariant-loop : tie.invariant-loop-i
 invariant-loop out₀ at text i₀ out i =
     (i ≤ length text) × (length out ≡ length out₀) × (put (drop i text) (out, at + i) ≡ put text (out₀, at))
 
-abbrev decreases-loop : tie.decreases-loop
+abbrev decreases-loop : tie.decreases-loop-i
 decreases-loop out₀ at text i₀ out i = length text - i
 
 pub put_text_spec : {M : Type 1} → statement M
