@@ -19,7 +19,7 @@ refuse_spec =
     (λ c κs.
     let passed = c in
     let short = passed in
-    let end = c.end-1.given.1 in (
+    let end = c.in-Accepted.is in (
       short-sheet short.args.sheet.now short.if-sheet.false,
       ended-found passed.first_fault.result _ _ passed.first_fault.ensures.1 end,
       passed-lasting _ _ _ short.requires short.if-sheet.false passed.first_fault.result passed.first_fault.ensures.0 _ end,
@@ -27,11 +27,11 @@ refuse_spec =
     (λ c.
     let passed = c in
     let asked = passed in
-    (rows-3-to-8 _ _ _ asked.if-sheet.false asked.if-names-gt-MAX_NAMES_LEN.false passed.first_fault.result passed.first_fault.ensures.0 _ _ c.refusal-1.given.1, same-itself _))
+    (rows-3-to-8 _ _ _ asked.if-sheet.false asked.if-names-gt-MAX_NAMES_LEN.false passed.first_fault.result passed.first_fault.ensures.0 _ _ c.in-Refused.is, same-itself _))
     (λ c.
     let passed = c in
     let asked = passed in (
-      row-9 _ _ _ asked.if-sheet.false asked.if-names-gt-MAX_NAMES_LEN.false passed.first_fault.result passed.first_fault.ensures.0 _ _ c.end-1.given.1
+      row-9 _ _ _ asked.if-sheet.false asked.if-names-gt-MAX_NAMES_LEN.false passed.first_fault.result passed.first_fault.ensures.0 _ _ c.in-Accepted.is
           c.endless.ensures.0,
       c.endless.ensures.1,
     )))
