@@ -14,4 +14,4 @@ vexil_check_spec =
     (λ c κs. search rules)
     (λ c κs. search rules)
     (λ c. search laws)
-    (λ c. (search laws, λ i. omega (arith, c.before.before.before.before.before.before.before.shared-slice-known.given i))))
+    (λ c. (search laws, λ i. omega (arith, c.shared_slice_known-1.given i))))
