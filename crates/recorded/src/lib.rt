@@ -1,6 +1,7 @@
 // The recorded cases: how their file is read, and whether the check gives a case's answer and list again. The top of
 // compare/src/cases_file.rs describes the file.
 #![tactic(auto)]
+
 mod buffer;
 mod numbers;
 mod replay;

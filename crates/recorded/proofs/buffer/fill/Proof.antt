@@ -8,10 +8,10 @@ use Rattle.recorded.proofs.Buffers.{mark-next, mark-all}
 use Rattle.recorded.proofs.buffer.fill.Statement.{statement}
 use Rattle.recorded.proofs.buffer.fill.Tie as tie
 
-abbrev invariant-loop : tie.invariant-loop
+abbrev invariant-loop : tie.invariant-loop-i
 invariant-loop list₀ i₀ list i = (i ≤ length list₀) × (length list ≡ length list₀) × (take i list ≡ marks i)
 
-abbrev decreases-loop : tie.decreases-loop
+abbrev decreases-loop : tie.decreases-loop-i
 decreases-loop list₀ i₀ list i = length list₀ - i
 
 ruleset laws = (rules, mark-next, mark-all)

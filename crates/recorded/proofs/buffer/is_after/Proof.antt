@@ -9,11 +9,11 @@ use Rattle.recorded.proofs.Replayed.{after, byte-differs, byte-agrees, every_byt
 use Rattle.recorded.proofs.buffer.is_after.Statement.{statement}
 use Rattle.recorded.proofs.buffer.is_after.Tie as tie
 
-abbrev invariant-loop : tie.invariant-loop
+abbrev invariant-loop : tie.invariant-loop-i
 invariant-loop violations list i₀ i =
     (i ≤ length list) × (same_bytes (after violations list) list ≡ same_bytes (drop i (after violations list)) (drop i list))
 
-abbrev decreases-loop : tie.decreases-loop
+abbrev decreases-loop : tie.decreases-loop-i
 decreases-loop violations list i₀ i = length list - i
 
 ruleset laws = (rules, byte-differs, byte-agrees, every_byte)

@@ -13,6 +13,6 @@ is_same_spec =
     (λ c κs. search rules)
     (λ c κs. search rules)
     (λ c. search rules)
-    (λ c. let checked = c.before.before.before.before.before in
-    let filled = checked.before.before.before.before in
-    same-call _ _ _ _ checked.vexil_check.new.1.1.0 _ _ _ _ _ filled.fill.ensures checked.vexil_check.ensures.0 c.before.before.same_values.ensures c.is_after.ensures (search rules)))
+    (λ c. let checked = c in
+    let filled = checked in
+    same-call _ _ _ _ checked.vexil_check-values.new.list _ _ _ _ _ filled.fill.ensures checked.vexil_check-values.ensures.0 c.same_values.ensures c.is_after.ensures (search rules)))

@@ -11,14 +11,14 @@ use Rattle.recorded.proofs.Counts.{buffer-first, buffer-next, buffer-all}
 use Rattle.recorded.proofs.replay.same_starts.Statement.{statement}
 use Rattle.recorded.proofs.replay.same_starts.Tie as tie
 
-abbrev invariant-loop : tie.invariant-loop
+abbrev invariant-loop : tie.invariant-loop-i
 invariant-loop sheet names told violations list₀ same₀ i₀ list same i =
     (i ≤ 5)
     × (same ≤ i)
     × (length list ≡ length list₀)
     × (same_buffers sheet names told violations ≡ same + length (select (is_same sheet names told violations) (drop i (buffer_lengths told.total))))
 
-abbrev decreases-loop : tie.decreases-loop
+abbrev decreases-loop : tie.decreases-loop-i
 decreases-loop sheet names told violations list₀ same₀ i₀ list same i = 5 - i
 
 ruleset laws = (rules, buffer-first, buffer-next, buffer-all)
@@ -38,13 +38,13 @@ same_starts_spec =
     (λ c. omega arith)
     (λ c. search rules)
     (λ c. omega arith)
-    (λ c. let called = c.before.before.before in
-    let measured = called.before.before in
-    let start = measured.before.before.loop in (
+    (λ c. let called = c in
+    let measured = called in
+    let start = measured.loop-i in (
       omega arith,
       omega arith,
       search rules,
-      buffer-next _ _ _ _ _ _ start.invariant.3 start.list _ _ _ (omega arith) measured.buffer_len.ensures.0 (omega arith) called.is_same.ensures c.one_if.ensures.0,
+      buffer-next _ _ _ _ _ _ start.invariant.3 start.list _ _ _ (omega arith) measured.buffer_len-len.ensures.0 (omega arith) called.is_same.ensures c.one_if-same.ensures.0,
     ))
     (λ c. search rules)
     (λ c. search laws))

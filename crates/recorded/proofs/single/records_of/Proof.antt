@@ -11,11 +11,11 @@ use Rattle.recorded.proofs.Counts.{record-next, record-all}
 use Rattle.recorded.proofs.single.records_of.Statement.{statement}
 use Rattle.recorded.proofs.single.records_of.Tie as tie
 
-abbrev invariant-loop : tie.invariant-loop
+abbrev invariant-loop : tie.invariant-loop-i
 invariant-loop sheet kind sub n found₀ i₀ found i =
     (i ≤ n) × (found ≤ i) × (records_of kind sub sheet ≡ found + length (select (is_of kind sub) (drop i (records sheet []))))
 
-abbrev decreases-loop : tie.decreases-loop
+abbrev decreases-loop : tie.decreases-loop-i
 decreases-loop sheet kind sub n found₀ i₀ found i = n - i
 
 ruleset laws = (rules, record-next, record-all)
