@@ -1,9 +1,8 @@
 -- What the rules found is added part by part, since violations are added one after another.
 use Rattle.std.proofs.Common.{◌≡◌, ℕ, Bool, true, false, List, [], ◌∷◌, ◌++◌, map, refl, ap, ◌∙◌}
 use Rattle.rules.specs.declared.span.Span.{Span}
-use Rattle.rules.specs.Words.{only_if}
 use Rattle.rules.specs.Rule.{Found, found_if, violation}
-use Rattle.diagnostic.specs.Push.{State, push_one, push_all, push_if, push_found}
+use Rattle.diagnostic.specs.Push.{State, push_all, push_if, push_found}
 use Rattle.diagnostic.proofs.Pushes.{push-append}
 
 map-append : {A B : Type 0} (f : A → B) (xs ys : List A) → map f (xs ++ ys) ≡ map f xs ++ map f ys

@@ -14,16 +14,11 @@ use Rattle.rules.specs.Grammar.{Due, TypeState, FieldListState, lifted, guarded,
 use Rattle.rules.specs.declared.answer.Refusal.{Refusal}
 use Rattle.rules.specs.declared.answer.Refusal.TheVariants as Why
 use Rattle.refusals.specs.declared.state.Body.{Body}
-use Rattle.refusals.specs.declared.state.Body.TheVariants as Body
 use Rattle.refusals.specs.declared.state.Item.{Item}
-use Rattle.refusals.specs.declared.state.Item.TheVariants as Item
 use Rattle.refusals.specs.declared.state.State.{State}
 use Rattle.refusals.specs.declared.state.PartStep.{PartStep}
-use Rattle.refusals.specs.declared.state.PartStep.TheVariants as PartStep
 use Rattle.refusals.specs.declared.state.ItemStep.{ItemStep}
-use Rattle.refusals.specs.declared.state.ItemStep.TheVariants as ItemStep
 use Rattle.refusals.specs.declared.state.Step.{Step}
-use Rattle.refusals.specs.declared.state.Step.TheVariants as Step
 use Rattle.refusals.specs.Due.{bare, part_at, due_of, dues, Sound, part_step_of, PartSound}
 use Rattle.refusals.specs.States.{is_bits, type_item, bits_after, type_with, type_in, in_body, in_fields, GoesOn, field_list_of, done_at, enum_of, moved_to, taken_to, item_step_of, ItemSound, state_of, step_of, StepSound, Leads}
 use Rattle.refusals.proofs.Stack.{none-due, sound_none}

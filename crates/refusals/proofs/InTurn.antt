@@ -12,7 +12,6 @@ use Rattle.rules.specs.Refusals.{Fault, is_wrong_length, is_long_names}
 use Rattle.rules.specs.Answer.{number_of}
 use Rattle.rules.specs.declared.answer.Refusal.{Refusal}
 use Rattle.refusals.specs.declared.pass.Passed.{Passed}
-use Rattle.refusals.specs.declared.pass.Passed.TheVariants as Passed
 use Rattle.refusals.specs.Pass.{is_second, first_fault_by, Ended, passed_of, EndSound}
 use Rattle.refusals.specs.Turned.{endless_by, refusal_by}
 

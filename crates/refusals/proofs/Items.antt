@@ -12,11 +12,8 @@ use Rattle.rules.specs.Kind
 use Rattle.rules.specs.Grammar as Grammar
 use Rattle.rules.specs.Grammar.{Due, TypeState, FieldState, FieldListState, lifted, guarded, part_step, type_step, field_step, field_list_step, field_list_done, in_field_item, field, typed, conditioned, annotations, field_item, type_due}
 use Rattle.refusals.specs.declared.state.Item.{Item}
-use Rattle.refusals.specs.declared.state.Item.TheVariants as Item
 use Rattle.refusals.specs.declared.state.PartStep.{PartStep}
-use Rattle.refusals.specs.declared.state.PartStep.TheVariants as PartStep
 use Rattle.refusals.specs.declared.state.ItemStep.{ItemStep}
-use Rattle.refusals.specs.declared.state.ItemStep.TheVariants as ItemStep
 use Rattle.rules.specs.declared.answer.Refusal.{Refusal}
 use Rattle.rules.proofs.Taken.{within-true}
 use Rattle.refusals.specs.Due.{bare, part_at, due_of, dues, Sound, part_step_of, PartSound}

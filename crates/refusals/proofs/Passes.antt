@@ -5,7 +5,7 @@ use native.Mathlib.Decide.{dec_lt}
 use native.Mathlib.Numerals.{add-one}
 use mathlib.Core.Path.{◌≡◌, refl, sym, ap, ◌∙◌, subst}
 use mathlib.Core.Bool.{Bool, true, false, not, ◌&&◌}
-use mathlib.Core.List.{List, []}
+use mathlib.Core.List.{List}
 use mathlib.Core.Option.{Option, some, none}
 use lib.ListN.{length, get_or, drop, replicate}
 use lib.Dec.{eqb}
@@ -20,12 +20,10 @@ use Rattle.rules.specs.declared.answer.Refusal.TheVariants.{SecondDeclaration}
 use Rattle.rules.proofs.Records.{records-drop, records-end}
 use Rattle.names.specs.View.{entry_of, declaration_part}
 use Rattle.refusals.specs.declared.own.Own.{Own}
-use Rattle.refusals.specs.declared.own.Own.TheVariants as Own
 use Rattle.refusals.specs.declared.state.Body.{Body}
 use Rattle.refusals.specs.declared.state.Item.{Item}
 use Rattle.refusals.specs.declared.state.State.{State}
 use Rattle.refusals.specs.declared.state.Step.{Step}
-use Rattle.refusals.specs.declared.state.Step.TheVariants as Step
 use Rattle.refusals.specs.Answers.{own_of}
 use Rattle.refusals.specs.Due.{bare, dues, Sound}
 use Rattle.refusals.specs.States.{start_state, state_of, step_of, StepSound}

@@ -23,9 +23,7 @@ use Rattle.refusals.specs.declared.own.Own.TheVariants as Own
 use Rattle.refusals.specs.declared.runs.Run.{Run}
 use Rattle.refusals.specs.declared.runs.Run.TheVariants.{Imports, BitNames, Nests}
 use Rattle.refusals.specs.declared.state.Body.{Body}
-use Rattle.refusals.specs.declared.state.Body.TheVariants as Body
 use Rattle.refusals.specs.declared.state.Item.{Item}
-use Rattle.refusals.specs.declared.state.Item.TheVariants as Item
 use Rattle.refusals.specs.declared.state.State.{State}
 use Rattle.refusals.specs.Due.{bare, part_at, due_of, dues, Sound}
 use Rattle.refusals.specs.States.{type_with, in_body, state_of}

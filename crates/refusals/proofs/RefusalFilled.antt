@@ -15,7 +15,6 @@ use Rattle.names.specs.View.{context_by}
 use Rattle.names.specs.SameEnds.{SameEnds, Lasting}
 use Rattle.names.proofs.Renamed.{table-lasting, table-chains}
 use Rattle.refusals.specs.declared.pass.Passed.{Passed}
-use Rattle.refusals.specs.declared.pass.Passed.TheVariants as Passed
 use Rattle.refusals.specs.Pass.{is_second, first_fault_by, passed_of}
 use Rattle.refusals.specs.Turned.{endless_by, refusal_by}
 use Rattle.refusals.proofs.Filled.{pass-filled}

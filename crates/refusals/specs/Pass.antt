@@ -9,9 +9,7 @@ use Rattle.rules.specs.Refusals.{Fault, own_fault}
 use Rattle.rules.specs.Answer.{number_of}
 use Rattle.names.specs.View.{entry_of, declaration_part}
 use Rattle.refusals.specs.declared.state.Step.{Step}
-use Rattle.refusals.specs.declared.state.Step.TheVariants as Step
 use Rattle.refusals.specs.declared.pass.Passed.{Passed}
-use Rattle.refusals.specs.declared.pass.Passed.TheVariants as Passed
 use Rattle.refusals.specs.declared.verdict.Verdict.{Verdict}
 use Rattle.refusals.specs.declared.verdict.Verdict.TheVariants.{Accepted, Refused}
 use Rattle.rules.specs.declared.answer.Refusal.TheVariants.{SecondDeclaration}

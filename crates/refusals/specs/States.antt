@@ -7,16 +7,11 @@ use Rattle.rules.specs.Grammar as Grammar
 use Rattle.rules.specs.Grammar.{Due, due_at, TypeState, FieldListState}
 use Rattle.rules.specs.Answer.{number_of}
 use Rattle.refusals.specs.declared.state.Body.{Body}
-use Rattle.refusals.specs.declared.state.Body.TheVariants as Body
 use Rattle.refusals.specs.declared.state.Item.{Item}
-use Rattle.refusals.specs.declared.state.Item.TheVariants as Item
 use Rattle.refusals.specs.declared.state.State.{State}
 use Rattle.refusals.specs.declared.state.PartStep.{PartStep}
-use Rattle.refusals.specs.declared.state.PartStep.TheVariants as PartStep
 use Rattle.refusals.specs.declared.state.ItemStep.{ItemStep}
-use Rattle.refusals.specs.declared.state.ItemStep.TheVariants as ItemStep
 use Rattle.refusals.specs.declared.state.Step.{Step}
-use Rattle.refusals.specs.declared.state.Step.TheVariants as Step
 use Rattle.refusals.specs.Due.{dues, Sound}
 
 -- in a type, a bit name may come next

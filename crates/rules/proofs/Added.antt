@@ -6,7 +6,7 @@ use mathlib.Core.Path.{◌≡◌, refl, ◌∙◌, sym}
 use mathlib.Core.Bool.{Bool, true, false, not, ◌&&◌, ◌||◌, or-true, or-false}
 use mathlib.Core.List.{List, [], map, flat_map}
 use lib.Dec.{eqb}
-use Rattle.rules.specs.Words.{number_if, any_of, member, Item}
+use Rattle.rules.specs.Words.{number_if, any_of, Item}
 use Rattle.rules.specs.Record.{Rec}
 use Rattle.rules.specs.Context.{ValidationContext}
 use Rattle.rules.specs.Rule.{Found}

@@ -1,6 +1,6 @@
 -- The printed example prints document 01's two lines, by computation.
 use mathlib.Core.Path.{◌≡◌, refl}
-use mathlib.Core.List.{List, [], ◌∷◌, map}
+use mathlib.Core.List.{[], ◌∷◌, map}
 use Rattle.rules.specs.Printed.{printed}
 use Rattle.rules.specs.Table.{printed_example}
 use Rattle.rules.proofs.Computed.{computed}

@@ -11,7 +11,7 @@ use lib.Seq.{take-nil, drop-drop, get_or-take, get_or-drop}
 use lib.Dec.{leb, ltb, eqb}
 use borrow.Author.Tests.{eqb-true}
 use Rattle.rules.specs.declared.span.Span.{Span}
-use Rattle.rules.specs.Words.{within, any_of, number_if, only_if, member, look_up, number}
+use Rattle.rules.specs.Words.{any_of, number_if, only_if, member, look_up, number}
 use Rattle.rules.specs.Kind
 use Rattle.rules.specs.Sub
 use Rattle.rules.specs.Record.{Rec, record_size, number_at, span_at, span_if, name_length, name_offset, name_fits, name_part}

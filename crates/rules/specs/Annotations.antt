@@ -1,5 +1,5 @@
 -- Annotations (`check_field_annotations`): rules 13 to 22, at the annotation.
-use Rattle.std.specs.Prelude.{ℕ, Bool, true, false, not, ◌&&◌, ◌||◌, take, ltb, eqb}
+use Rattle.std.specs.Prelude.{ℕ, Bool, true, not, ◌&&◌, take, ltb, eqb}
 use mathlib.Core.List.{List, [], ◌∷◌, ◌++◌, flat_map}
 use Rattle.rules.specs.Words.{within, only_if, any_of, select, Item, items}
 use Rattle.rules.specs.Kind

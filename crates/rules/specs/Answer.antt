@@ -1,6 +1,6 @@
 -- What a call answers: a refusal with its index, or the total and the errors of the full list.
 use Rattle.std.specs.Prelude.{ℕ, Bool, true, false, List, map, length, eqb}
-use Rattle.std.proofs.Math.Option.{Option, some, none}
+use Rattle.std.proofs.Math.Option.{some, none}
 use Rattle.rules.specs.declared.span.Span.{Span}
 use Rattle.rules.specs.declared.violation.Violation.{Violation}
 use Rattle.rules.specs.declared.answer.Answer.{Answer}

@@ -1,7 +1,7 @@
 -- What the list buffer holds after a call.
-use Rattle.std.specs.Prelude.{ℕ, zero, suc, ◌*◌, ◌/◌, min, Bool, true, false, length, get_or, take, drop}
+use Rattle.std.specs.Prelude.{ℕ, zero, suc, ◌*◌, ◌/◌, min, length, get_or, take, drop}
 use mathlib.Core.List.{List, [], ◌∷◌, ◌++◌, flat_map}
-use Rattle.std.proofs.Math.Option.{Option, some, none}
+use Rattle.std.proofs.Math.Option.{some, none}
 use Rattle.rules.specs.declared.violation.Violation.{Violation}
 use Rattle.rules.specs.Words.{number, bytes}
 use Rattle.rules.specs.Record.{span_at}

@@ -1,5 +1,5 @@
 -- Conditions (`validate_where_expr`, `validate_where_operand`, `validate_cmp_operator`): rules 23 to 30, parts left to right.
-use Rattle.std.specs.Prelude.{ℕ, Bool, true, false, not, ◌&&◌, ◌||◌, length, take}
+use Rattle.std.specs.Prelude.{ℕ, Bool, true, false, not, ◌&&◌, length, take}
 use mathlib.Core.List.{List, [], ◌∷◌, ◌++◌, flat_map}
 use Rattle.rules.specs.Words.{within, only_if, first_is}
 use Rattle.rules.specs.Kind

@@ -4,7 +4,7 @@ use Rattle.std.proofs.Math.Option.{Option, some, none}
 use Rattle.rules.specs.Words.{within, any_of, select, same_bytes}
 use Rattle.rules.specs.Kind
 use Rattle.rules.specs.Sub
-use Rattle.rules.specs.Record.{Rec, is, is_of}
+use Rattle.rules.specs.Record.{Rec, is}
 
 -- a known declaration: its sub, and the first record of its own type, which only a newtype has
 pub record Declared (N P : Type 0) : Type 0 where

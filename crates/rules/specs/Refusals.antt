@@ -1,7 +1,7 @@
 -- The nine rows by which a sheet is turned down: "1, then 2; then the first record with a fault, lowest number first; 9 last".
-use Rattle.std.specs.Prelude.{ℕ, zero, suc, ◌%◌, Bool, true, false, not, ◌&&◌, ◌||◌, List, [], ◌∷◌, ◌++◌, length, ltb, eqb}
+use Rattle.std.specs.Prelude.{ℕ, suc, ◌%◌, Bool, true, false, not, ◌&&◌, ◌||◌, List, [], ◌∷◌, ◌++◌, length, ltb, eqb}
 use Rattle.std.proofs.Math.Option.{Option, some, none}
-use Rattle.rules.specs.Words.{only_if, first, any_of, same_bytes}
+use Rattle.rules.specs.Words.{only_if, first, any_of}
 use Rattle.rules.specs.Kind
 use Rattle.rules.specs.Sub
 use Rattle.rules.specs.Record.{Rec, is, is_of, record_size, records}

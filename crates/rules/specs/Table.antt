@@ -1,14 +1,14 @@
 -- The cases that document 01 marks, as rows of one table: M1 to M12 clause by clause, the nine refusals by their small examples, and the
 -- printed example. Record t of a row, counted from 1, has the span `at t` and the ordinal's span `ordinal_at t`, so that no two are alike.
-use Rattle.std.specs.Prelude.{ℕ, zero, suc, ◌+◌, ◌*◌, ◌^◌, Bool, true, false, ◌&&◌, replicate, eqb}
+use Rattle.std.specs.Prelude.{ℕ, zero, suc, ◌+◌, ◌*◌, ◌^◌, replicate}
 use mathlib.Core.List.{List, [], ◌∷◌, ◌++◌, flatten}
-use Rattle.std.proofs.Math.Option.{Option, some, none}
+use Rattle.std.proofs.Math.Option.{some, none}
 use Rattle.rules.specs.declared.span.Span.{Span}
 use Rattle.rules.specs.declared.violation.Violation.{Violation}
 use Rattle.rules.specs.declared.answer.AnswerValues.{AnswerValues}
 use Rattle.rules.specs.Words.{bytes}
 use Rattle.rules.specs.Refusals.{refusal}
-use Rattle.rules.specs.Answer.{answer, full_list}
+use Rattle.rules.specs.Answer.{full_list}
 
 -- a row: a sheet, a names text, and the answer and the list that they get
 pub record Case : Type 0 where
@@ -65,7 +65,7 @@ refused names sheet number index =
 abbrev ab : List ℕ
 ab = 46 ∷ 46 ∷ 97 ∷ 98 ∷ []
 
--- the names text ".alimit", ".avarintzigzag", ".a_c": a at 1, the words behind it
+-- the names text ".alimit", ".avarintzigzag", ".aC": a at 1, the words behind it
 abbrev a_limit : List ℕ
 a_limit = 46 ∷ 97 ∷ 108 ∷ 105 ∷ 109 ∷ 105 ∷ 116 ∷ []
 

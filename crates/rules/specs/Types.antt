@@ -4,8 +4,8 @@ use mathlib.Core.List.{List, [], ◌∷◌, ◌++◌, map, flat_map}
 use Rattle.rules.specs.Words.{within, only_if, first_is, front, rest}
 use Rattle.rules.specs.Kind
 use Rattle.rules.specs.Sub
-use Rattle.rules.specs.Record.{Rec, is, is_of}
-use Rattle.rules.specs.Context.{ValidationContext, declared_as, is_declared, is_known_type, chain_end}
+use Rattle.rules.specs.Record.{Rec, is}
+use Rattle.rules.specs.Context.{ValidationContext, declared_as, is_known_type, chain_end}
 use Rattle.rules.specs.Rule.{Found, found_if}
 
 -- which parts of a type are checked: of a map the value alone, of a generic none, else every part

@@ -28,7 +28,6 @@ use Rattle.names.proofs.Renamed.{table-list}
 use Rattle.diagnostic.specs.Push.{State, push_found}
 use Rattle.diagnostic.proofs.Written.{push-written}
 use Rattle.refusals.specs.declared.verdict.Verdict.{Verdict}
-use Rattle.refusals.specs.declared.verdict.Verdict.TheVariants as Verdict
 use Rattle.refusals.specs.Pass.{verdict_of}
 use Rattle.validate.specs.Answered.{Answered}
 

@@ -2,7 +2,6 @@
 use Prim.Native.Nat.{◌+◌, ◌≤◌}
 use native.Mathlib.Omega.{arith}
 use borrow.Author.Rules.{rules}
-use borrow.Author.Tests.{not-false}
 use Rattle.rules.specs.Kind
 use Rattle.rules.specs.Record.{is}
 use Rattle.bodies.specs.Runs.{AllIn}

@@ -2,7 +2,6 @@
 use mathlib.Core.Path.{◌∙◌, sym}
 use native.Mathlib.Omega.{arith}
 use borrow.Author.Rules.{rules}
-use borrow.Author.Tests.{not-true, not-false}
 use Rattle.sheet.proofs.Marks.{valid-by, no_name, bad-start, good_start}
 use Rattle.names.proofs.Blocks.{same-bytes-continue}
 use Rattle.names.proofs.Numbers.{name-fits, name-read}

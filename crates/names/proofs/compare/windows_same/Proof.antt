@@ -3,7 +3,6 @@ use Prim.Native.Nat.{◌-◌}
 use native.Mathlib.Omega.{arith}
 use lib.ListN.{length}
 use borrow.Author.Rules.{rules}
-use borrow.Author.Tests.{not-true, not-false}
 use Rattle.sheet.proofs.Windows.{window-fails, Walked, walk-starts, walk-goes-on, walk_ends}
 use Rattle.names.specs.Same.{same_at}
 use Rattle.names.proofs.compare.windows_same.Statement.{statement}

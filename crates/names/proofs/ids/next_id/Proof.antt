@@ -1,7 +1,6 @@
 -- `names::ids::next_id` meets its contract: a record whose name is not compared, or was met before, adds nothing to the chains.
 use mathlib.Core.Path.{◌∙◌}
 use borrow.Author.Rules.{rules}
-use borrow.Author.Tests.{not-true, not-false}
 use Rattle.rules.specs.Asked.{is_compared}
 use Rattle.names.proofs.Leads.{bucket-of, added_none, added-old, added_new}
 use Rattle.names.proofs.Numbers.{kind-tested}

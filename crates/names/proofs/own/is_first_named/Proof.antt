@@ -1,7 +1,7 @@
 -- `names::own::is_first_named` meets its contract: a name fits just if it ends within the names text.
 use native.Mathlib.Omega.{arith}
 use borrow.Author.Rules.{rules}
-use borrow.Author.Tests.{not-true, not-false}
+use borrow.Author.Tests.{not-true}
 use Rattle.names.proofs.Numbers.{named_none, named-unfit, named-fit}
 use Rattle.names.proofs.own.is_first_named.Statement.{statement}
 use Rattle.names.proofs.own.is_first_named.Tie as tie

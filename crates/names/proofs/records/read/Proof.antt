@@ -4,7 +4,6 @@ use native.Mathlib.Omega.{arith}
 use mathlib.Core.Path.{sym, ◌∙◌}
 use lib.Dec.{lit≤}
 use borrow.Author.Rules.{rules}
-use borrow.Author.Tests.{not-true, not-false}
 use Rattle.sheet.proofs.Part.{whole-record}
 use Rattle.names.specs.Parts.{record_of}
 use Rattle.names.proofs.Leads.{added-unnamed}

@@ -4,7 +4,6 @@ use mathlib.Core.Path.{◌≡◌}
 use lib.ListN.{length, drop}
 use borrow.Author.Rules.{rules}
 use Rattle.rules.specs.Words.{same_bytes}
-use Rattle.recorded.specs.Buffer.{marks, recorded_after}
 use Rattle.recorded.proofs.Replayed.{after, byte-differs, byte-agrees, every_byte}
 use Rattle.recorded.proofs.buffer.is_after.Statement.{statement}
 use Rattle.recorded.proofs.buffer.is_after.Tie as tie

@@ -1,6 +1,5 @@
 -- Each arm makes the tests of its run.
 use borrow.Author.Rules.{rules}
-use mathlib.Core.Path.{refl}
 use Rattle.refusals.specs.declared.runs.Run.TheVariants.{Imports, BitNames}
 use Rattle.refusals.proofs.PlainRuns.{plain-named, plain-nest}
 use Rattle.refusals.proofs.runs.is_plain.Statement.{statement}

@@ -2,7 +2,6 @@
 use Prim.Native.Nat.{ℕ, ◌-◌, ◌≤◌, ◌<◌}
 use native.Mathlib.Omega.{arith}
 use borrow.Author.Rules.{rules}
-use borrow.Author.Tests.{not-false}
 use Rattle.refusals.specs.Runs.{Plain}
 use Rattle.refusals.proofs.PlainRuns.{plain-next}
 use Rattle.refusals.proofs.runs.plain_end.Statement.{statement}
