@@ -3,6 +3,7 @@
 // No contract can say what a read brings; what is made of the bytes stands in `recorded`.
 use recorded::VIOLATION;
 use rules::AnswerValues;
+use std::io::Read;
 
 // What is found where a number is due.
 #[derive(Clone, Copy)]
@@ -38,33 +39,35 @@ pub enum Next {
     Fault,
 }
 
-// Reads four bytes as a number.
-fn next_number(fd: i32) -> Number {
+// Reads four bytes as a number. A read that fails is a fault.
+fn next_number(file: &mut impl Read) -> Number {
     let mut four = [0u8; 4];
-    let got = io::read_full(fd, &mut four);
+    let Ok(got) = file.read(&mut four) else {
+        return Number::Fault;
+    };
     if got == 0 {
         return Number::End;
     }
-    if got < 4 {
+    if file.read_exact(&mut four[got..]).is_err() {
         return Number::Fault;
     }
     Number::Of(recorded::number(&four))
 }
 
-// Fills the first `len` bytes of `buf`; false if there is no room, or the file ends before.
-fn next_bytes(fd: i32, len: usize, buf: &mut [u8]) -> bool {
+// Fills the first `len` bytes of `buf`; false if there is no room, or the file ends before or a read fails.
+fn next_bytes(file: &mut impl Read, len: usize, buf: &mut [u8]) -> bool {
     if buf.len() < len {
         return false;
     }
-    io::read_full(fd, &mut buf[..len]) == len
+    file.read_exact(&mut buf[..len]).is_ok()
 }
 
 // Reads a part that stands after its length.
-fn next_part(fd: i32, buf: &mut [u8]) -> Number {
-    let Number::Of(n) = next_number(fd) else {
+fn next_part(file: &mut impl Read, buf: &mut [u8]) -> Number {
+    let Number::Of(n) = next_number(file) else {
         return Number::Fault;
     };
-    if next_bytes(fd, n as usize, buf) {
+    if next_bytes(file, n as usize, buf) {
         Number::Of(n)
     } else {
         Number::Fault
@@ -72,17 +75,17 @@ fn next_part(fd: i32, buf: &mut [u8]) -> Number {
 }
 
 // Reads the four numbers of an answer that the check can give.
-fn next_answer(fd: i32) -> Told {
-    let Number::Of(number) = next_number(fd) else {
+fn next_answer(file: &mut impl Read) -> Told {
+    let Number::Of(number) = next_number(file) else {
         return Told::Fault;
     };
-    let Number::Of(index) = next_number(fd) else {
+    let Number::Of(index) = next_number(file) else {
         return Told::Fault;
     };
-    let Number::Of(total) = next_number(fd) else {
+    let Number::Of(total) = next_number(file) else {
         return Told::Fault;
     };
-    let Number::Of(errors) = next_number(fd) else {
+    let Number::Of(errors) = next_number(file) else {
         return Told::Fault;
     };
     if recorded::is_answer(number, index, total, errors) {
@@ -98,20 +101,20 @@ fn next_answer(fd: i32) -> Told {
 }
 
 // Reads the file's first 16 bytes, and answers how many cases it says that there are.
-pub fn start(fd: i32) -> Number {
-    let Number::Of(first) = next_number(fd) else {
+pub fn start(file: &mut impl Read) -> Number {
+    let Number::Of(first) = next_number(file) else {
         return Number::Fault;
     };
-    let Number::Of(second) = next_number(fd) else {
+    let Number::Of(second) = next_number(file) else {
         return Number::Fault;
     };
     if !recorded::is_magic(first, second) {
         return Number::Fault;
     }
-    let Number::Of(count) = next_number(fd) else {
+    let Number::Of(count) = next_number(file) else {
         return Number::Fault;
     };
-    let Number::Of(high) = next_number(fd) else {
+    let Number::Of(high) = next_number(file) else {
         return Number::Fault;
     };
     if high == 0 {
@@ -122,8 +125,8 @@ pub fn start(fd: i32) -> Number {
 }
 
 // Whether nothing is left.
-pub fn is_end(fd: i32) -> bool {
-    if let Number::End = next_number(fd) {
+pub fn is_end(file: &mut impl Read) -> bool {
+    if let Number::End = next_number(file) {
         true
     } else {
         false
@@ -131,14 +134,19 @@ pub fn is_end(fd: i32) -> bool {
 }
 
 // Reads the next case into the buffers.
-pub fn next_case(fd: i32, sheet: &mut [u8], names: &mut [u8], list: &mut [u8]) -> Next {
-    match next_number(fd) {
+pub fn next_case(
+    file: &mut impl Read,
+    sheet: &mut [u8],
+    names: &mut [u8],
+    list: &mut [u8],
+) -> Next {
+    match next_number(file) {
         Number::End => Next::End,
         Number::Fault => Next::Fault,
         Number::Of(n) => {
             let len = n as usize;
-            if next_bytes(fd, len, sheet) {
-                after_sheet(fd, len, names, list)
+            if next_bytes(file, len, sheet) {
+                after_sheet(file, len, names, list)
             } else {
                 Next::Fault
             }
@@ -147,15 +155,15 @@ pub fn next_case(fd: i32, sheet: &mut [u8], names: &mut [u8], list: &mut [u8]) -
 }
 
 // Reads what follows a case's sheet.
-fn after_sheet(fd: i32, sheet: usize, names: &mut [u8], list: &mut [u8]) -> Next {
-    let Number::Of(n) = next_part(fd, names) else {
+fn after_sheet(file: &mut impl Read, sheet: usize, names: &mut [u8], list: &mut [u8]) -> Next {
+    let Number::Of(n) = next_part(file, names) else {
         return Next::Fault;
     };
-    let Told::Answer(answer) = next_answer(fd) else {
+    let Told::Answer(answer) = next_answer(file) else {
         return Next::Fault;
     };
     let len = VIOLATION * (answer.total as usize);
-    if next_bytes(fd, len, list) {
+    if next_bytes(file, len, list) {
         Next::Case(Case {
             sheet,
             names: n as usize,

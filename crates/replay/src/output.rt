@@ -1,81 +1,81 @@
 // The lines that are written.
 use crate::tally::Tally;
-use libc::STDOUT_FILENO;
 use rules::AnswerValues;
+use std::io;
 
 // Writes words alone.
-fn text(words: &[u8]) {
-    io::write_all(STDOUT_FILENO, words);
+fn text(rt: &impl Print, words: &str) -> io::Result<()> {
+    rt.print(words)
 }
 
 // Writes a number alone.
-fn number(n: u64) {
-    io::print_decimal(STDOUT_FILENO, n);
+fn number(rt: &impl Print, n: u64) -> io::Result<()> {
+    rt.print(n)
 }
 
 // Writes a line of words.
-pub fn line(words: &[u8]) {
-    text(words);
-    text(b"\n");
+pub fn line(rt: &impl Print, words: &str) -> io::Result<()> {
+    rt.println(words)
 }
 
 // Writes a line of words and a number.
-fn count(words: &[u8], n: u64) {
-    text(words);
-    number(n);
-    text(b"\n");
+fn count(rt: &impl Print, words: &str, n: u64) -> io::Result<()> {
+    println!(rt; "{words}{n}")
 }
 
 // Writes a word and a number.
-fn part(word: &[u8], n: u32) {
-    text(word);
-    number(n as u64);
+fn part(rt: &impl Print, word: &str, n: u32) -> io::Result<()> {
+    print!(rt; "{word}{n}")
 }
 
 // Writes the numbers of an answer.
-fn answer(values: AnswerValues) {
-    part(b" number ", values.number);
-    part(b" index ", values.index);
-    part(b" total ", values.total);
-    part(b" errors ", values.errors);
+fn answer(rt: &impl Print, values: AnswerValues) -> io::Result<()> {
+    part(rt, " number ", values.number)?;
+    part(rt, " index ", values.index)?;
+    part(rt, " total ", values.total)?;
+    part(rt, " errors ", values.errors)
 }
 
 // Names a case by its index in the file, from 0, with the recorded answer and the check's.
-pub fn differing(index: u64, told: AnswerValues, found: AnswerValues) {
-    text(b"case ");
-    number(index);
-    text(b" differs: recorded");
-    answer(told);
-    text(b", checked");
-    answer(found);
-    text(b"\n");
+pub fn differing(
+    rt: &impl Print,
+    index: u64,
+    told: AnswerValues,
+    found: AnswerValues,
+) -> io::Result<()> {
+    text(rt, "case ")?;
+    number(rt, index)?;
+    text(rt, " differs: recorded")?;
+    answer(rt, told)?;
+    text(rt, ", checked")?;
+    answer(rt, found)?;
+    text(rt, "\n")
 }
 
 // Writes how many cases were refused by each number.
-fn refusals(numbers: &[u64; 10]) {
-    let mut i = 1;
-    while i < 10 {
-        text(b"refused ");
-        number(i as u64);
-        count(b": ", numbers[i]);
-        i += 1;
+fn refusals(rt: &impl Print, numbers: &[u64; 10]) -> io::Result<()> {
+    for i in 1..10 {
+        text(rt, "refused ")?;
+        number(rt, i as u64)?;
+        count(rt, ": ", numbers[i])?;
     }
+    Ok(())
 }
 
 // Writes what the cases come to.
-pub fn summary(t: Tally) {
+pub fn summary(rt: &impl Print, t: Tally) -> io::Result<()> {
     let numbers = t.numbers;
-    count(b"cases ", t.cases);
-    count(b"accepted ", numbers[0]);
-    refusals(&numbers);
-    count(b"messages of one field ", t.single);
-    count(b"violations ", t.violations);
-    count(b"buffers compared ", t.buffers);
-    count(b"buffers as recorded ", t.same);
-    count(b"cases differing ", t.differing);
+    count(rt, "cases ", t.cases)?;
+    count(rt, "accepted ", numbers[0])?;
+    refusals(rt, &numbers)?;
+    count(rt, "messages of one field ", t.single)?;
+    count(rt, "violations ", t.violations)?;
+    count(rt, "buffers compared ", t.buffers)?;
+    count(rt, "buffers as recorded ", t.same)?;
+    count(rt, "cases differing ", t.differing)?;
     if t.whole {
-        line(b"the file is whole");
+        line(rt, "the file is whole")
     } else {
-        line(b"the file is broken after these cases");
+        line(rt, "the file is broken after these cases")
     }
 }

@@ -1,5 +1,8 @@
 // The program. Its files here are document 01's example.
 #![tactic(auto)]
-fn main() {
-    program::run();
+
+use std::io;
+
+fn main(rt: HostRuntime) -> io::Result<()> {
+    program::run(&rt)
 }

@@ -1,5 +1,8 @@
 // The program, run on document 01's example without its names text: the field's name lies beyond it.
 #![tactic(auto)]
-fn main() {
-    program::run();
+
+use std::io;
+
+fn main(rt: HostRuntime) -> io::Result<()> {
+    program::run(&rt)
 }
