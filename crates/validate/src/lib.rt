@@ -9,10 +9,9 @@ mod whole;
 use rules::AnswerValues;
 pub use whole::check;
 
-// The check, for callers in other languages. The list gets the violations that fit it, in whole records; a call that is refused changes no byte
-// of it.
-#[unsafe(no_mangle)]
-pub extern "C" fn vexil_check(sheet: &[u8], names: &[u8], list: &mut [u8]) -> AnswerValues
+// The check, as numbers, which `validate_c` exports for callers in other languages. The list gets the violations that fit it, in whole records;
+// a call that is refused changes no byte of it.
+pub fn vexil_check(sheet: &[u8], names: &[u8], list: &mut [u8]) -> AnswerValues
     ensures answered { Answered sheet.now names.now list.old result list.new }
     ensures bytes { IsBytes sheet.now }
 {
