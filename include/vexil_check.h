@@ -2,8 +2,8 @@
  * vexil_check: lists every violation of a declaration in a Vexil schema.
  *
  * The declaration is handed over as a sheet of 32-byte records and a names text; docs/FORMAT.md says how a sheet is laid out, with a
- * sheet worked out byte by byte. `rt staticlib validate` writes target/staticlib/libvalidate.a, which has the function; it links into
- * x86-64 programs:
+ * sheet worked out byte by byte. `./archive` writes target/staticlib/libvalidate.a, which has the function; it links into x86-64
+ * programs:
  *
  *     cc -std=c11 -Iinclude program.c target/staticlib/libvalidate.a
  */

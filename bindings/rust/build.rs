@@ -1,4 +1,4 @@
-//! Links the library that `rt staticlib validate` wrote.
+//! Links the library that `./archive` wrote.
 
 use std::env;
 use std::path::{Path, PathBuf};
@@ -28,9 +28,7 @@ fn main() {
     println!("cargo:rerun-if-changed={}", library.display());
     if !library.is_file() {
         eprintln!("There is no {}.", library.display());
-        eprintln!(
-            "Run `rt staticlib validate` in the repository's folder, which writes it, or set"
-        );
+        eprintln!("Run `./archive` in the repository's folder, which writes it, or set");
         eprintln!("{FOLDER} to the folder that holds {LIBRARY}.");
         exit(1);
     }

@@ -4,7 +4,7 @@
  * It reads body.sheet and body.names, a missing file being empty, and prints a line per violation (class, E or W, offset, length), then
  * total and errors; or `refused N at I`.
  *
- *     rt staticlib validate
+ *     ./archive
  *     cc -std=c11 -Iinclude -o target/check examples/c/check.c target/staticlib/libvalidate.a
  *     target/check examples/request
  */
