@@ -62,20 +62,19 @@ fn compute(rules: &Path, cases: &str, out: &Path, spoil: bool) -> Result<bool> {
     }
     let numbered: Vec<(usize, &Case)> = cases.iter().enumerate().collect();
     lay_out(rules, &numbered, out)?;
-    let log = check(out, "cases")?;
-    let differing = differing(&log);
+    let verdict = check(out, "cases")?;
+    let differing = differing(&verdict.log);
     differing.iter().take(20).for_each(|name| println!("differs: {name}"));
     let records: usize = cases.iter().map(|case| case.sheet.len() / 32).sum();
     let accepted = cases.iter().filter(|case| case.values[0] == 0).count();
-    let proved = is_proved(&log);
-    let told = if proved || !differing.is_empty() {
+    let told = if verdict.is_proved || !differing.is_empty() {
         format!("{} differences", differing.len())
     } else {
-        print!("{log}");
+        print!("{}", verdict.log);
         "no verdict".to_string()
     };
     println!("{} cases, {accepted} accepted, {records} records computed: {told}", cases.len());
-    Ok(proved)
+    Ok(verdict.is_proved)
 }
 
 // ---------------------------------------------------------------------------
@@ -127,70 +126,70 @@ fn text(rest: &mut &[u8]) -> Option<Vec<u8>> {
 
 const TEST: &str = "\
 use Prim.Native.Nat.{ℕ}
-use mathlib.Core.Path.{_≡_, refl}
-use mathlib.Core.Bool.{Bool, true, false, _&&_}
-use mathlib.Core.List.{List, [], _∷_, map, flatMap}
+use mathlib.Core.Path.{◌≡◌, refl}
+use mathlib.Core.Bool.{Bool, true, false, ◌&&◌}
+use mathlib.Core.List.{List, [], ◌∷◌, map, flat_map}
 use mathlib.Core.Option.{Option, some, none}
-use Rattle·rules.specs.declared.span.Span.{Span}
-use Rattle·rules.specs.declared.violation.Violation.{Violation}
-use Rattle·rules.specs.declared.answer.AnswerValues.{AnswerValues}
-use Rattle·rules.specs.Words.{sameBytes}
-use Rattle·rules.specs.Refusals.{Fault, refusal}
-use Rattle·rules.specs.Rule.{Found, violation}
-use Rattle·rules.specs.Answer.{answer, foundIn, fullList, totalOf, errorsOf}
-use Rattle·rules.specs.Buffer.{encode}
-use Rattle·rules.specs.Table.{told}
+use Rattle.rules.specs.declared.span.Span.{Span}
+use Rattle.rules.specs.declared.violation.Violation.{Violation}
+use Rattle.rules.specs.declared.answer.AnswerValues.{AnswerValues}
+use Rattle.rules.specs.Words.{same_bytes}
+use Rattle.rules.specs.Refusals.{Fault, refusal}
+use Rattle.rules.specs.Rule.{Found, violation}
+use Rattle.rules.specs.Answer.{answer, found_in, full_list, total_of, errors_of}
+use Rattle.rules.specs.Buffer.{encode}
+use Rattle.rules.specs.Table.{told}
 
 -- what is expected of a sheet and a names text: the answer's numbers, the list's bytes, and the rules by which it was found
-unfoldable pub rulesOf : List ℕ → List ℕ → List ℕ
-rulesOf sheet names = elim (refusal sheet names) [ some f ↦ [] | none ↦ map (λ f. f .rule) (foundIn sheet names) ]
+unfoldable pub rules_of : List ℕ → List ℕ → List ℕ
+rules_of sheet names = elim (refusal sheet names) [ some f ↦ [] | none ↦ map (λ f. f.rule) (found_in sheet names) ]
 
-unfoldable pub valuesTest : AnswerValues → List ℕ → Bool
-valuesTest a values = sameBytes (a .number ∷ a .index ∷ a .total ∷ a .errors ∷ []) values
+unfoldable pub values_test : AnswerValues → List ℕ → Bool
+values_test a values = same_bytes (a.number ∷ a.index ∷ a.total ∷ a.errors ∷ []) values
 
 unfoldable pub expected : List ℕ → List ℕ → List ℕ → List ℕ → List ℕ → Bool
 expected sheet names values list rules =
-    valuesTest (answer sheet names) values
-    && sameBytes (flatMap encode (told sheet names)) list
-    && sameBytes (rulesOf sheet names) rules
+    values_test (answer sheet names) values
+    && same_bytes (flat_map encode (told sheet names)) list
+    && same_bytes (rules_of sheet names) rules
 
 -- the same, with the refusal and the list computed once
-unfoldable pub foundTest : List (Found Span) → List ℕ → List ℕ → List ℕ → Bool
-foundTest found values list rules =
+unfoldable pub found_test : List (Found Span) → List ℕ → List ℕ → List ℕ → Bool
+found_test found values list rules =
     let vs : List Violation = map violation found in
-    valuesTest (record { number = 0; index = 0; total = totalOf vs; errors = errorsOf vs }) values
-    && sameBytes (flatMap encode vs) list
-    && sameBytes (map (λ f. f .rule) found) rules
+    values_test (record { number = 0; index = 0; total = total_of vs; errors = errors_of vs }) values
+    && same_bytes (flat_map encode vs) list
+    && same_bytes (map (λ f. f.rule) found) rules
 
-unfoldable pub caseTest : List ℕ → List ℕ → List ℕ → List ℕ → List ℕ → Bool
-caseTest sheet names values list rules =
+unfoldable pub case_test : List ℕ → List ℕ → List ℕ → List ℕ → List ℕ → Bool
+case_test sheet names values list rules =
     elim (refusal sheet names) [
-      | some f ↦ valuesTest (record { number = f .number; index = f .index; total = 0; errors = 0 }) values
-        && sameBytes (flatMap encode []) list
-        && sameBytes [] rules
-      | none ↦ foundTest (foundIn sheet names) values list rules
+      | some f ↦ values_test (record { number = f.number; index = f.index; total = 0; errors = 0 }) values
+        && same_bytes (flat_map encode []) list
+        && same_bytes [] rules
+      | none ↦ found_test (found_in sheet names) values list rules
     ]
 
 by-refusal :
     (sheet names values list rules : List ℕ)
     → (r : Option Fault)
     → refusal sheet names ≡ r
-    → expected sheet names values list rules ≡ caseTest sheet names values list rules
-unfolding expected rulesOf caseTest foundTest answer told fullList
-by-refusal sheet names values list rules none h = rw (h, answer, told, rulesOf, caseTest) refl
-by-refusal sheet names values list rules (some f) h = rw (h, answer, told, rulesOf, caseTest) refl
+    → expected sheet names values list rules ≡ case_test sheet names values list rules
+unfolding expected rules_of case_test found_test answer told full_list
+by-refusal sheet names values list rules none h = rw (h, answer, told, rules_of, case_test) refl
+by-refusal sheet names values list rules (some f) h = rw (h, answer, told, rules_of, case_test) refl
 
-pub test-expected : (sheet names values list rules : List ℕ) → expected sheet names values list rules ≡ caseTest sheet names values list rules
+pub test-expected : (sheet names values list rules : List ℕ) → expected sheet names values list rules ≡ case_test sheet names values list rules
 test-expected sheet names values list rules = by-refusal sheet names values list rules (refusal sheet names) refl
 ";
 
 const USES: &str = "\
-use mathlib.Core.Path.{_≡_, refl}
+use mathlib.Core.Path.{◌≡◌, refl}
 use mathlib.Core.Bool.{true}
-use mathlib.Core.List.{[], _∷_, flatten}
-use Rattle·rules.specs.Words.{bytes}
-use Rattle·rules.proofs.Computed.{computed}
-use Rattle·cases·proofs.proofs.Test.{valuesTest, foundTest, caseTest}
+use mathlib.Core.List.{[], ◌∷◌, flatten}
+use Rattle.rules.specs.Words.{bytes}
+use Rattle.rules.proofs.Computed.{computed}
+use Rattle.cases.proofs.Test.{values_test, found_test, case_test}
 ";
 
 /// The proofs of the rules that stand beside the cases.
@@ -237,8 +236,8 @@ fn statement(i: usize, case: &Case) -> String {
     let (sheet, names) = (bytes(&case.sheet), bytes(&case.names));
     let expected = [list(&case.values), bytes(&case.list), list(&case.rules)].join(" ");
     format!(
-        "\ncase-{i} : caseTest {sheet} {names} {expected} ≡ true\n\
-         unfolding computed caseTest foundTest valuesTest\n\
+        "\ncase-{i} : case_test {sheet} {names} {expected} ≡ true\n\
+         unfolding computed case_test found_test values_test\n\
          case-{i} = refl\n"
     )
 }
@@ -275,15 +274,18 @@ fn copy(from: &Path, to: &Path) -> Result<()> {
 // Checking
 // ---------------------------------------------------------------------------
 
-fn check(repository: &Path, name: &str) -> Result<String> {
-    let output = Command::new("rt").args(["check", name]).current_dir(repository).output()?;
-    let mut log = String::from_utf8_lossy(&output.stdout).into_owned();
-    log += &String::from_utf8_lossy(&output.stderr);
-    Ok(log)
+/// What the checker says of a crate of the repository, after those that it stands on.
+struct Verdict {
+    log: String,
+    is_proved: bool,
 }
 
-fn is_proved(log: &str) -> bool {
-    log.lines().any(|line| line.starts_with("rt: ok"))
+fn check(repository: &Path, name: &str) -> Result<Verdict> {
+    let folder = repository.join("crates").join(name);
+    let output = Command::new("rt").arg("check").current_dir(folder).output()?;
+    let mut log = String::from_utf8_lossy(&output.stdout).into_owned();
+    log += &String::from_utf8_lossy(&output.stderr);
+    Ok(Verdict { log, is_proved: output.status.success() })
 }
 
 /// The cases that the checker refused.
@@ -366,11 +368,11 @@ fn try_edit(
     let ours = out.join("crates/rules");
     lay_out(rules, few, out)?;
     apply(&ours, edit)?;
-    let log = check(out, "cases")?;
+    let Verdict { log, is_proved } = check(out, "cases")?;
     if let Some(case) = differing(&log).first() {
         return Ok((By::Run, format!("caught by the run at {case}")));
     }
-    if !is_proved(&log) {
+    if !is_proved {
         let at = first_refusal(&log);
         if at != "table-passes" {
             let message = format!("{}: not refused by the table but at {at}\n{log}", edit.label);
@@ -379,14 +381,14 @@ fn try_edit(
         return Ok((By::Table, format!("caught by the table at {at}")));
     }
     copy(&rules.join("proofs"), &ours.join("proofs"))?;
-    let log = check(out, "rules")?;
-    if !is_proved(&log) {
+    let Verdict { log, is_proved } = check(out, "rules")?;
+    if !is_proved {
         return Ok((By::Theorem, format!("caught by a theorem at {}", first_refusal(&log))));
     }
     for part in all.chunks(TOGETHER) {
         lay_out(rules, part, out)?;
         apply(&ours, edit)?;
-        if let Some(case) = differing(&check(out, "cases")?).first() {
+        if let Some(case) = differing(&check(out, "cases")?.log).first() {
             return Ok((By::Run, format!("caught by the run at {case}")));
         }
     }
