@@ -3,7 +3,7 @@
 
 It goes over crates/ (.antt, .rt and .edit), edits/, README.md and docs/. A word that begins with a small letter and has a capital in it is respelled, each
 part of a name that dashes join by itself, as in `anyOf-append`. Types, modules, and the constants that carry the names of the Rust and of the
-format (`Class.OrdinalDuplicate`, `Kind.Field`) begin with a capital and stay. Text in quotes stays. In documents only the words that the crates have are respelled.
+format (`Class.OrdinalDuplicate`, `Kind.Field`) begin with a capital and stay. Text in double quotes stays; byte literals do not (docs/PORT.md). In documents only the words that the crates have are respelled.
 A lemma whose name would fall together with a definition's gets `_lem` (LEMMAS); --show lists the words of each file that fall together: what is left there
 is a definition and a function of src/ that have one name in two languages, or a definition and lemmas named after it. It is run once, after the kit's port.py.
 """
@@ -46,6 +46,8 @@ def files(root, folder, endings):
 
 def main():
     root = sys.argv[1] if len(sys.argv) > 1 else os.path.dirname(os.path.dirname(os.path.abspath(__file__)))
+    if os.path.exists(os.path.join(root, "docs", "PORT.md")):
+        sys.exit("respell: docs/PORT.md is there, so this has been run, and a second run would spell some names wrongly")
     words, written, bad = set(), {}, []
     for path in files(root, "crates", (".antt", ".rt")):
         with open(path, encoding="utf-8") as it:

@@ -39,11 +39,11 @@ pub enum Next {
     Fault,
 }
 
-// Reads four bytes as a number. A read that fails is a fault.
+// Reads four bytes as a number. A read that fails where the number is due counts as the end, one that fails within it as a fault.
 fn next_number(file: &mut impl Read) -> Number {
     let mut four = [0u8; 4];
     let Ok(got) = file.read(&mut four) else {
-        return Number::Fault;
+        return Number::End;
     };
     if got == 0 {
         return Number::End;

@@ -13,7 +13,7 @@ taken_spec =
     (tie.spec
     (λ c. search rules)
     (λ c. search laws)
-    (λ c. (taken-deep _ _ _ _ c.requires c.if-depth-gt64.true, tt))
+    (λ c. (taken-deep _ _ _ _ c.requires (search rules), tt))
     (λ c. search rules)
     (λ c. search rules)
     (λ c. search rules)
@@ -22,4 +22,4 @@ taken_spec =
     (λ c κs. search rules)
     (λ c. search rules)
     (λ c. omega (arith, height-within _ _ c.requires.sound))
-    (λ c. taken-parts _ _ _ _ c.requires _ (search rules) c.if-depth-gt64.false c.part_count.ensures))
+    (λ c. taken-parts _ _ _ _ c.requires _ (search rules) (search rules) c.part_count.ensures))

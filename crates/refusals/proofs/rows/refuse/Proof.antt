@@ -12,7 +12,7 @@ refuse_spec =
     tie.close
     (tie.spec
     (λ c. (row-1 _ _ _ c.if-sheet.true, same-itself _))
-    (λ c. (row-2 _ _ _ c.if-sheet.false c.if-names-gt-MAX_NAMES_LEN.true, same-itself _))
+    (λ c. (row-2 _ _ _ c.if-sheet.false (search rules), same-itself _))
     (λ c κs. short-sheet c.args.sheet.now c.if-sheet.false)
     (λ c. search rules)
     (λ c. search rules)
@@ -27,11 +27,11 @@ refuse_spec =
     (λ c.
     let passed = c in
     let asked = passed in
-    (rows-3-to-8 _ _ _ asked.if-sheet.false asked.if-names-gt-MAX_NAMES_LEN.false passed.first_fault.result passed.first_fault.ensures.0 _ _ c.in-Refused.is, same-itself _))
+    (rows-3-to-8 _ _ _ asked.if-sheet.false (search rules) passed.first_fault.result passed.first_fault.ensures.0 _ _ c.in-Refused.is, same-itself _))
     (λ c.
     let passed = c in
     let asked = passed in (
-      row-9 _ _ _ asked.if-sheet.false asked.if-names-gt-MAX_NAMES_LEN.false passed.first_fault.result passed.first_fault.ensures.0 _ _ c.in-Accepted.is
+      row-9 _ _ _ asked.if-sheet.false (search rules) passed.first_fault.result passed.first_fault.ensures.0 _ _ c.in-Accepted.is
           c.endless.ensures.0,
       c.endless.ensures.1,
     )))

@@ -1,4 +1,4 @@
--- `sheet::field_name::starts_by_lem` meets its contract: the mark that it reads decides.
+-- `sheet::field_name::starts_by` meets its contract: the mark that it reads decides.
 use borrow.Author.Rules.{rules}
 use Rattle.sheet.specs.Mark.{starts_by}
 use Rattle.sheet.proofs.field_name.starts_by.Statement.{statement}
