@@ -30,6 +30,5 @@ has_reason_spec =
     (λ c. search rules)
     (λ c. search rules)
     (λ c.
-    let turn = c in
-    reason-next _ _ _ _ _ _ turn.loop-j.invariant turn.loop-j-test.true turn.kind.ensures _ c.if-kind-eq-ANNOTATION.false c.code.ensures c.if-code-eq-REASON.false)
+    reason-next _ _ _ _ _ _ c.loop-j.invariant c.loop-j-test.true c.kind.ensures _ c.if-kind-eq-ANNOTATION.false c.code.ensures c.if-code-eq-REASON.false)
     (λ c. search reason-none))

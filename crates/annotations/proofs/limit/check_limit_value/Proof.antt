@@ -36,8 +36,6 @@ check_limit_value_spec =
     (λ c. search rules)
     (λ c. search rules)
     (λ c.
-    let called = c in
-    let turn = called in
-    (search rules, limits-turn _ _ _ _ _ _ _ _ _ _ turn.loop-j.invariant.1 turn.loop-j-test.true turn.kind.ensures _ turn.if-kind-eq-ANNOTATION.false called.check_argument-counts.ensures))
+    (search rules, limits-turn _ _ _ _ _ _ _ _ _ _ c.loop-j.invariant.1 c.loop-j-test.true c.kind.ensures _ c.if-kind-eq-ANNOTATION.false c.check_argument-counts.ensures))
     (λ c. search rules)
     (λ c. search limits-end))

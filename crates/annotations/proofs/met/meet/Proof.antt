@@ -16,5 +16,4 @@ meet_spec =
     (λ c. search rules)
     (λ c. search rules)
     (λ c.
-    let start = c in
-    slotted-meet _ _ _ _ _ _ _ _ _ start.requires.0 start.requires.1 c.id-id.ensures c.is_met-met.ensures c.slot.ensures.0 c.short.ensures))
+    slotted-meet _ _ _ _ _ _ _ _ _ c.requires.0 c.requires.1 c.id-id.ensures c.is_met-met.ensures c.slot.ensures.0 c.short.ensures))

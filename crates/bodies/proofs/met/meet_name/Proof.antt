@@ -17,5 +17,4 @@ meet_name_spec =
     (λ c. search rules)
     (λ c. search rules)
     (λ c.
-    let start = c in
-    (rw (sym start.id-id.ensures) c.has_name-met.ensures, slotted-added _ _ _ _ _ _ _ _ start.requires.1 start.id-id.ensures c.slot.ensures.0 c.short.ensures start.requires.0)))
+    (rw (sym c.id-id.ensures) c.has_name-met.ensures, slotted-added _ _ _ _ _ _ _ _ c.requires.1 c.id-id.ensures c.slot.ensures.0 c.short.ensures c.requires.0)))

@@ -33,4 +33,4 @@ contains_spec =
     (λ c. search rules)
     (λ c. search rules)
     (λ c. (windows-next _ _ _ _ _ _ c.loop-i.invariant.0, search rules))
-    (λ c. let w = c in windows-all _ _ _ _ _ _ _ _ (search rules) w.loop-i.invariant.0 w.loop-i.invariant.1 c.loop-i-test.false (search rules) (search rules) (search rules)))
+    (λ c. windows-all _ _ _ _ _ _ _ _ (search rules) c.loop-i.invariant.0 c.loop-i.invariant.1 c.loop-i-test.false (search rules) (search rules) (search rules)))

@@ -14,7 +14,7 @@ tell_spec =
     (λ c κs. search rules)
     (λ c κs. search rules)
     (λ c κs. search rules)
-    (λ c. let w = c in (
-      kept-gone _ _ _ _ _ _ _ _ _ _ _ w.requires w.if-ordinal-gt-MAX_ORDINAL.false c.short-number.ensures _ c.contains-tombstoned.ensures,
-      kept-before _ _ _ _ _ _ _ _ _ _ _ w.requires w.if-ordinal-gt-MAX_ORDINAL.false c.short-number.ensures _ c.contains-met.ensures,
+    (λ c. (
+      kept-gone _ _ _ _ _ _ _ _ _ _ _ c.requires c.if-ordinal-gt-MAX_ORDINAL.false c.short-number.ensures _ c.contains-tombstoned.ensures,
+      kept-before _ _ _ _ _ _ _ _ _ _ _ c.requires c.if-ordinal-gt-MAX_ORDINAL.false c.short-number.ensures _ c.contains-met.ensures,
     )))

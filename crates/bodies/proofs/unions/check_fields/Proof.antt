@@ -28,13 +28,13 @@ check_fields_spec =
     (λ c κs. search rules)
     (λ c κs. let bare = c.is_bare.ensures c.if-is_bare.true in (bare-alone _ _ _ bare, omega (arith, bare-fits _ _ _ bare, c.requires.3)))
     (λ c. search rules)
-    (λ c. let w = c in let bare = c.is_bare.ensures c.if-is_bare.true in (
-      fields-single _ _ _ _ _ _ w.kind_at.result w.run_end-end.result _ w.if-e-a.false w.kind_at.ensures (search rules) w.run_end-end.ensures (bare-run _ _ _ bare).0 (item-found _ _ _ _ _ _ _ _ _ _ (field-alone _ _ _ _ _ w.field_rules.ensures w.check_ordinal-counts.ensures) c.check_bare.ensures),
-      ready-later _ _ _ w.requires.2 (search rules),
+    (λ c. let bare = c.is_bare.ensures c.if-is_bare.true in (
+      fields-single _ _ _ _ _ _ c.kind_at.result c.run_end-end.result _ c.if-e-a.false c.kind_at.ensures (search rules) c.run_end-end.ensures (bare-run _ _ _ bare).0 (item-found _ _ _ _ _ _ _ _ _ _ (field-alone _ _ _ _ _ c.field_rules.ensures c.check_ordinal-counts.ensures) c.check_bare.ensures),
+      ready-later _ _ _ c.requires.2 (search rules),
     ))
     (λ c κs. (search rules, c.requires.3))
     (λ c. search rules)
-    (λ c. let w = c in (
-      fields-single _ _ _ _ _ _ w.kind_at.result w.run_end-end.result _ w.if-e-a.false w.kind_at.ensures (search rules) w.run_end-end.ensures c.check_parts-passed.ensures.1.0 (item-found _ _ _ _ _ _ _ _ _ _ (field-alone _ _ _ _ _ w.field_rules.ensures w.check_ordinal-counts.ensures) c.check_parts-passed.ensures.0),
-      ready-later _ _ _ w.requires.2 (search rules),
+    (λ c. (
+      fields-single _ _ _ _ _ _ c.kind_at.result c.run_end-end.result _ c.if-e-a.false c.kind_at.ensures (search rules) c.run_end-end.ensures c.check_parts-passed.ensures.1.0 (item-found _ _ _ _ _ _ _ _ _ _ (field-alone _ _ _ _ _ c.field_rules.ensures c.check_ordinal-counts.ensures) c.check_parts-passed.ensures.0),
+      ready-later _ _ _ c.requires.2 (search rules),
     )))

@@ -38,11 +38,10 @@ validate_where_operands_spec =
     (λ c κs. search rules)
     (λ c. search rules)
     (λ c. search rules)
-    (λ c.
-    let turn = c in (
+    (λ c. (
       search rules,
-      each_next _ _ _ _ _ _ _ turn.loop-j-test.true turn.validate_where_operand-counts.ensures
-          turn.loop-j.invariant.1,
+      each_next _ _ _ _ _ _ _ c.loop-j-test.true c.validate_where_operand-counts.ensures
+          c.loop-j.invariant.1,
     ))
     (λ c. search rules)
     (λ c. search each-end))

@@ -23,9 +23,8 @@ is_good_spec =
     (λ c. search rules)
     (λ c.
     let look = c.continue_by-good.ensures in
-    let ended = c in
-    let end = ended.block_end-end.ensures in
-    let judged = ended.requires.1 in (
+    let end = c.block_end-end.ensures in
+    let judged = c.requires.1 in (
       looked _ _ _ _ _ look end.0 end.1 end.2 end.3,
       judged-more _ _ _ _ _ look end.0 end.1 end.2 end.3 _ _ judged c.known_of.ensures,
     )))

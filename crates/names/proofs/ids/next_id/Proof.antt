@@ -18,15 +18,12 @@ next_id_spec =
     added_none _ _ _ _ _ start.0 start.1 start.5 (keyed ∙ c.if-not-is_compared.true))
     (λ c κs. search rules)
     (λ c κs.
-    let read = c in
-    let test = read in
-    let start = test.requires in
-    let keyed = kind-tested _ _ _ start.2 _ start.3 is_compared _ test.is_compared.ensures in
-    (start.0, keyed ∙ test.if-not-is_compared.false, start.4, bucket-of _ _ _ _ _ start.4 read.bucket-b.ensures.0, read.bucket-b.ensures.1, start.5))
+    let start = c.requires in
+    let keyed = kind-tested _ _ _ start.2 _ start.3 is_compared _ c.is_compared.ensures in
+    (start.0, keyed ∙ c.if-not-is_compared.false, start.4, bucket-of _ _ _ _ _ start.4 c.bucket-b.ensures.0, c.bucket-b.ensures.1, start.5))
     (λ c.
-    let called = c in
-    let start = called.requires in
-    let found = called.first_same-id.ensures in
+    let start = c.requires in
+    let found = c.first_same-id.ensures in
     (found.0, found.1, added-old _ _ _ _ _ start.0 start.1 start.5 _ found.0 c.if-id-i.true))
     (λ c. search rules)
     (λ c. search rules)
@@ -37,15 +34,11 @@ next_id_spec =
     (λ c. search rules)
     (λ c. search rules)
     (λ c.
-    let last = c in
-    let called = last in
-    let read = called in
-    let test = read in
-    let start = test.requires in
-    let keyed = kind-tested _ _ _ start.2 _ start.3 is_compared _ test.is_compared.ensures in
-    let found = called.first_same-id.ensures in (
+    let start = c.requires in
+    let keyed = kind-tested _ _ _ start.2 _ start.3 is_compared _ c.is_compared.ensures in
+    let found = c.first_same-id.ensures in (
       found.0,
       found.1,
-      added_new _ _ _ _ _ start.0 start.1 start.5 _ found.0 _ _ (keyed ∙ test.if-not-is_compared.false)
-          (bucket-of _ _ _ _ _ start.4 read.bucket-b.ensures.0) read.bucket-b.ensures.1 last.if-id-i.false c.short.ensures,
+      added_new _ _ _ _ _ start.0 start.1 start.5 _ found.0 _ _ (keyed ∙ c.if-not-is_compared.false)
+          (bucket-of _ _ _ _ _ start.4 c.bucket-b.ensures.0) c.bucket-b.ensures.1 c.if-id-i.false c.short.ensures,
     )))

@@ -11,14 +11,12 @@ use Rattle.names.proofs.notes.note.Tie as tie
 returns : tie.Need-returns-then-kind-eq-DECLARATION
 unfolding any_of
 returns c =
-    let call = c in
-    let test = call in
-    let start = test.requires in
-    let kind = test.if-kind-eq-DECLARATION.true in
+    let start = c.requires in
+    let kind = c.if-kind-eq-DECLARATION.true in
     let keyed = kind-keyed _ _ _ start.0 _ start.4 start.3 Kind.Declaration refl kind in
     noted-declaration _ _ _ start.0 _ _ start.7 _ start.2 keyed start.5
     (kind-is _ _ _ start.0 _ start.4 Kind.Declaration kind)
-    (kind-is-not _ _ _ start.0 _ start.4 Kind.ImportedName (λ other. omega arith)) _ call.note_declaration.ensures
+    (kind-is-not _ _ _ start.0 _ start.4 Kind.ImportedName (λ other. omega arith)) _ c.note_declaration.ensures
 
 returns-2 : tie.Need-returns-then-kind-eq-IMPORTED_NAME
 unfolding any_of

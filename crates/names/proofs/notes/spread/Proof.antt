@@ -11,15 +11,13 @@ use Rattle.names.proofs.notes.spread.Tie as tie
 
 returns : tie.Need-returns-then-place-eq0
 returns c =
-    let read = c in
-    let start = read.requires in
-    spread-undeclared _ _ _ _ start.1 start.3 _ read.index-id.ensures _ refl _ refl c.if-place-eq0.true
+    let start = c.requires in
+    spread-undeclared _ _ _ _ start.1 start.3 _ c.index-id.ensures _ refl _ refl c.if-place-eq0.true
 
 returns-2 : tie.Need-returns
 returns-2 c =
-    let read = c in
-    let start = read.requires in
-    spread-declared _ _ _ _ start.1 start.3 _ read.index-id.ensures _ refl _ refl _ _ c.index.ensures c.target.ensures
+    let start = c.requires in
+    spread-declared _ _ _ _ start.1 start.3 _ c.index-id.ensures _ refl _ refl _ _ c.index.ensures c.target.ensures
 
 pub spread_spec : {M : Type 1} → statement M
 spread_spec =
@@ -53,18 +51,14 @@ spread_spec =
     let small = own-small _ _ _ _ start.1 start.3 _ c.index-id.ensures in
     search rules)
     (λ c.
-    let read = c in
-    let start = read in
-    let small = own-small _ _ _ _ start.requires.1 start.requires.3 _ read.index-id.ensures in
-    let table = start.args.table.now in
-    room_after table start.requires.0 _ _ small (lit≤ tt) (1024 + start.args.i) (get_or table (1024 + read.index-id.result) 0))
+    let small = own-small _ _ _ _ c.requires.1 c.requires.3 _ c.index-id.ensures in
+    let table = c.args.table.now in
+    room_after table c.requires.0 _ _ small (lit≤ tt) (1024 + c.args.i) (get_or table (1024 + c.index-id.result) 0))
     (λ c. search rules)
     (λ c. search rules)
     (λ c.
-    let read = c in
-    let start = read in
-    let table = start.args.table.now in
-    room_after table start.requires.0 _ _ start.requires.2 (lit≤ tt) (1024 + start.args.i) (get_or table (1024 + read.index-id.result) 0))
+    let table = c.args.table.now in
+    room_after table c.requires.0 _ _ c.requires.2 (lit≤ tt) (1024 + c.args.i) (get_or table (1024 + c.index-id.result) 0))
     (λ c. search rules)
     returns
     (λ c κs. search rules)
@@ -72,11 +66,9 @@ spread_spec =
     (λ c. search rules)
     (λ c. search rules)
     (λ c.
-    let read = c in
-    let start = read in
-    let table = start.args.table.now in
-    let place = get_or table (1024 + read.index-id.result) 0 in
-    room-after-two table start.requires.0 _ _ start.requires.2 (lit≤ tt) (1024 + start.args.i) place (2048 + start.args.i)
-    (get_or (set table (1024 + start.args.i) place) (2048 + read.index-id.result) 0))
+    let table = c.args.table.now in
+    let place = get_or table (1024 + c.index-id.result) 0 in
+    room-after-two table c.requires.0 _ _ c.requires.2 (lit≤ tt) (1024 + c.args.i) place (2048 + c.args.i)
+    (get_or (set table (1024 + c.args.i) place) (2048 + c.index-id.result) 0))
     (λ c. search rules)
     returns-2)

@@ -17,12 +17,9 @@ is_first_named_spec =
     (λ c κs. search rules)
     (λ c κs. search rules)
     (λ c.
-    let has = c in
-    named-unfit _ _ _ _ has.has_name.ensures has.if-not-has_name.false _ _ c.name_offset-start.ensures c.name_len-len.ensures (omega arith))
+    named-unfit _ _ _ _ c.has_name.ensures c.if-not-has_name.false _ _ c.name_offset-start.ensures c.name_len-len.ensures (omega arith))
     (λ c. search rules)
     (λ c.
-    let has = c in
-    named-unfit _ _ _ _ has.has_name.ensures has.if-not-has_name.false _ _ c.name_offset-start.ensures c.name_len-len.ensures (omega arith))
+    named-unfit _ _ _ _ c.has_name.ensures c.if-not-has_name.false _ _ c.name_offset-start.ensures c.name_len-len.ensures (omega arith))
     (λ c.
-    let has = c in
-    named-fit _ _ _ _ has.has_name.ensures has.if-not-has_name.false _ _ c.name_offset-start.ensures c.name_len-len.ensures (omega arith)))
+    named-fit _ _ _ _ c.has_name.ensures c.if-not-has_name.false _ _ c.name_offset-start.ensures c.name_len-len.ensures (omega arith)))

@@ -15,10 +15,8 @@ name_at_spec =
     (λ c. search rules)
     (λ c. search rules)
     (λ c κs.
-    let start = c in
-    let own = whole-record start.args.sheet.now start.args.i in
-    named-own start.args.sheet.now start.args.names.now _ start.args.i own start.requires.1)
+    let own = whole-record c.args.sheet.now c.args.i in
+    named-own c.args.sheet.now c.args.names.now _ c.args.i own c.requires.1)
     (λ c.
-    let start = c in
-    let own = whole-record start.args.sheet.now start.args.i in
-    own_name start.args.sheet.now start.args.names.now _ start.args.i own _ c.first_name.ensures))
+    let own = whole-record c.args.sheet.now c.args.i in
+    own_name c.args.sheet.now c.args.names.now _ c.args.i own _ c.first_name.ensures))

@@ -22,15 +22,13 @@ decreases-loop sheet names table₀ heads₀ links₀ blocks₀ n marks i₀ tab
 
 read-requires : tie.Need-read-requires invariant-loop decreases-loop
 read-requires c κs =
-    let turn = c in
-    let begun = turn in
-    let count = begun.count-n.ensures in
-    let inv = turn.loop-i.invariant in
-    let inside = turn.loop-i-test.true in (
+    let count = c.count-n.ensures in
+    let inv = c.loop-i.invariant in
+    let inside = c.loop-i-test.true in (
       rw (← count.0) inside,
       omega (arith, count.1),
       whole-known _ _ _ count.0 inside,
-      begun.name_marks-marks.ensures,
+      c.name_marks-marks.ensures,
       inv.1,
       inv.3.size,
       inv.2,
@@ -46,17 +44,14 @@ read_records_spec =
     (λ c κs. search rules)
     (λ c κs. search rules)
     (λ c.
-    let start = c in
-    (omega arith, judged-none _ _ 256, chained-none _ _, read_none _ _ _ start.requires.1))
+    (omega arith, judged-none _ _ 256, chained-none _ _, read_none _ _ _ c.requires.1))
     read-requires
     (λ c. search rules)
     (λ c. search rules)
     (λ c.
-    let read = c in
-    let inside = read.loop-i-test.true in
-    (omega arith, read.read.ensures.0, read.read.ensures.1, read.read.ensures.2))
+    let inside = c.loop-i-test.true in
+    (omega arith, c.read.ensures.0, c.read.ensures.1, c.read.ensures.2))
     (λ c. search rules)
     (λ c.
     let inv = c.loop-i.invariant in
-    let counted = c in
-    read_all _ _ _ _ _ counted.count-n.ensures.0 inv.0 c.loop-i-test.false inv.3))
+    read_all _ _ _ _ _ c.count-n.ensures.0 inv.0 c.loop-i-test.false inv.3))

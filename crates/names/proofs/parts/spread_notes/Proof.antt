@@ -15,10 +15,9 @@ decreases-loop sheet names table₀ n i₀ table i = n - i
 
 spread-requires : tie.Need-spread-requires invariant-loop decreases-loop
 spread-requires c κs =
-    let turn = c in
-    let count = turn.count-n.ensures in
-    let inv = turn.loop-i.invariant.1 in
-    let inside = turn.loop-i-test.true in
+    let count = c.count-n.ensures in
+    let inv = c.loop-i.invariant.1 in
+    let inside = c.loop-i-test.true in
     (inv.size, rw (← count.0) inside, omega (arith, count.1), inv)
 
 pub spread_notes_spec : {M : Type 1} → statement M
@@ -31,17 +30,14 @@ spread_notes_spec =
     (λ c κs. search rules)
     (λ c. search rules)
     (λ c.
-    let asked = c in
-    let start = asked in
-    none-spread _ _ _ _ asked.count-n.ensures.0 (asked.is_silent.ensures c.if-is_silent.true) start.requires.1)
+    none-spread _ _ _ _ c.count-n.ensures.0 (c.is_silent.ensures c.if-is_silent.true) c.requires.1)
     (λ c. (omega arith, spread_none _ _ _ c.requires.1))
     spread-requires
     (λ c. search rules)
     (λ c. search rules)
     (λ c.
-    let spread = c in
-    let inside = spread.loop-i-test.true in
-    (omega arith, spread.spread.ensures))
+    let inside = c.loop-i-test.true in
+    (omega arith, c.spread.ensures))
     (λ c. search rules)
     (λ c.
     let inv = c.loop-i.invariant in

@@ -14,14 +14,9 @@ d_word_spec =
     (λ c. rw (sym c.is_word.ensures ∙ c.if-is_word.true, started_from))
     (λ c κs. search rules)
     (λ c.
-    let delta = c in
-    rw (sym delta.is_word.ensures ∙ delta.if-is_word.false, sym c.is_word-2.ensures ∙ c.if-is_word-2.true, started_from))
+    rw (sym c.is_word.ensures ∙ c.if-is_word.false, sym c.is_word-2.ensures ∙ c.if-is_word-2.true, started_from))
     (λ c κs. search rules)
     (λ c.
-    let deprecated = c in
-    let delta = deprecated in
-    rw (sym delta.is_word.ensures ∙ delta.if-is_word.false, sym deprecated.is_word-2.ensures ∙ deprecated.if-is_word-2.false, sym c.is_word-3.ensures ∙ c.if-is_word-3.true, started_from))
+    rw (sym c.is_word.ensures ∙ c.if-is_word.false, sym c.is_word-2.ensures ∙ c.if-is_word-2.false, sym c.is_word-3.ensures ∙ c.if-is_word-3.true, started_from))
     (λ c.
-    let deprecated = c in
-    let delta = deprecated in
-    rw (sym delta.is_word.ensures ∙ delta.if-is_word.false, sym deprecated.is_word-2.ensures ∙ deprecated.if-is_word-2.false, sym c.is_word-3.ensures ∙ c.if-is_word-3.false, started_from)))
+    rw (sym c.is_word.ensures ∙ c.if-is_word.false, sym c.is_word-2.ensures ∙ c.if-is_word-2.false, sym c.is_word-3.ensures ∙ c.if-is_word-3.false, started_from)))

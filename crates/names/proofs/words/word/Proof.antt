@@ -22,8 +22,4 @@ word_spec =
     (λ c κs. search rules)
     (λ c. search (rules, started-place 122))
     (λ c.
-    let v = c in
-    let r = v in
-    let l = r in
-    let d = l in
-    search (rules, other_word, d.if-first-eq100.false, l.if-first-eq108.false, r.if-first-eq114.false, v.if-first-eq118.false, c.if-first-eq122.false)))
+    search (rules, other_word, c.if-first-eq100.false, c.if-first-eq108.false, c.if-first-eq114.false, c.if-first-eq118.false, c.if-first-eq122.false)))

@@ -13,6 +13,4 @@ is_same_spec =
     (λ c κs. search rules)
     (λ c κs. search rules)
     (λ c. search rules)
-    (λ c. let checked = c in
-    let filled = checked in
-    same-call _ _ _ _ checked.vexil_check-values.new.list _ _ _ _ _ filled.fill.ensures checked.vexil_check-values.ensures.0 c.same_values.ensures c.is_after.ensures (search rules)))
+    (λ c. same-call _ _ _ _ c.vexil_check-values.new.list _ _ _ _ _ c.fill.ensures c.vexil_check-values.ensures.0 c.same_values.ensures c.is_after.ensures (search rules)))

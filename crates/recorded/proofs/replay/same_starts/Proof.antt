@@ -38,13 +38,11 @@ same_starts_spec =
     (λ c. omega arith)
     (λ c. search rules)
     (λ c. omega arith)
-    (λ c. let called = c in
-    let measured = called in
-    let start = measured.loop-i in (
+    (λ c. let start = c.loop-i in (
       omega arith,
       omega arith,
       search rules,
-      buffer-next _ _ _ _ _ _ start.invariant.3 start.list _ _ _ (omega arith) measured.buffer_len-len.ensures.0 (omega arith) called.is_same.ensures c.one_if-same.ensures.0,
+      buffer-next _ _ _ _ _ _ start.invariant.3 start.list _ _ _ (omega arith) c.buffer_len-len.ensures.0 (omega arith) c.is_same.ensures c.one_if-same.ensures.0,
     ))
     (λ c. search rules)
     (λ c. search laws))

@@ -32,18 +32,16 @@ endless_spec =
     (λ c κs. (c.loop-i.invariant.2.lasts, omega arith, omega arith))
     (λ c. search rules)
     (λ c.
-    let turn = c in
-    let inv = turn.loop-i.invariant in
+    let inv = c.loop-i.invariant in
     let found = c.is_endless.ensures in
-    let here = kept-nowhere _ _ _ turn.loop-i.i turn.records-n.result _ inv.2 found.0 in
+    let here = kept-nowhere _ _ _ c.loop-i.i c.records-n.result _ inv.2 found.0 in
     (endless-found _ _ _ _ _ _ inv.3 here (omega arith) c.if-is_endless.true, (kept-through _ _ _ _ inv.2 found.1).same))
     (λ c. search rules)
     (λ c. search rules)
     (λ c.
-    let turn = c in
-    let inv = turn.loop-i.invariant in
+    let inv = c.loop-i.invariant in
     let found = c.is_endless.ensures in
-    let here = kept-nowhere _ _ _ turn.loop-i.i turn.records-n.result _ inv.2 found.0 in (
+    let here = kept-nowhere _ _ _ c.loop-i.i c.records-n.result _ inv.2 found.0 in (
       inv.0,
       omega arith,
       kept-through _ _ _ _ inv.2 found.1,

@@ -17,18 +17,14 @@ part_step_spec =
     (λ c. search laws)
     (λ c κs. search rules)
     (λ c κs.
-    let asked = c in
-    type-taken _ _ _ _ asked.requires asked.if-height-eq0.false refl asked.if-part-eq0.true _ c.is_type.ensures c.if-is_type.true)
+    type-taken _ _ _ _ c.requires c.if-height-eq0.false refl c.if-part-eq0.true _ c.is_type.ensures c.if-is_type.true)
     (λ c. search rules)
     (λ c.
-    let asked = c in
-    (type-other _ _ _ _ asked.requires asked.if-height-eq0.false refl asked.if-part-eq0.true _ c.is_type.ensures c.if-is_type.false, tt))
+    (type-other _ _ _ _ c.requires c.if-height-eq0.false refl c.if-part-eq0.true _ c.is_type.ensures c.if-is_type.false, tt))
     (λ c κs. search rules)
     (λ c.
-    let asked = c in
-    (part-other _ _ _ _ asked.requires asked.if-height-eq0.false refl _ c.is_part.ensures (ap not c.if-not-is_part.true), tt))
+    (part-other _ _ _ _ c.requires c.if-height-eq0.false refl _ c.is_part.ensures (ap not c.if-not-is_part.true), tt))
     (λ c κs. search rules)
     (λ c κs.
-    let asked = c in
-    other-taken _ _ _ _ asked.requires asked.if-height-eq0.false refl _ c.is_part.ensures _ (ap not c.if-not-is_part.false) c.part_of-parts.ensures)
+    other-taken _ _ _ _ c.requires c.if-height-eq0.false refl _ c.is_part.ensures _ (ap not c.if-not-is_part.false) c.part_of-parts.ensures)
     (λ c. search rules))

@@ -31,7 +31,6 @@ other_step_spec =
     (λ c. leads-at c.flags_step.result _ _ _ _ (in-flags c.args.s _ _ _ c.in-Flags.is) c.requires.0 c.flags_step.ensures)
     (λ c. leads-at c.outside_step.result _ _ _ _ (in-outside c.args.s _ _ _ c.in-Outside.is) c.requires.0 c.outside_step.ensures)
     (λ c.
-    let start = c in
-    let found = c.variant_item.ensures _ start.requires.0 in
-    (found.0 ∙ in_variant start.args.s _ _ _ c.in-Variant.is, found.1))
+    let found = c.variant_item.ensures _ c.requires.0 in
+    (found.0 ∙ in_variant c.args.s _ _ _ c.in-Variant.is, found.1))
     (λ c. (c.inner_step.ensures.0 ∙ in-newtype c.args.s _ _ _ c.in-Newtype.is, c.inner_step.ensures.1)))

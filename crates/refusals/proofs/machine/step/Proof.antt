@@ -14,18 +14,14 @@ step_spec =
     (λ c κs. search rules)
     (λ c κs. search rules)
     (λ c.
-    let next = c in
-    let asked = next in
-    type-stepped asked.args.s _ _ _ (asked.type_goes_on.ensures next.if-type_goes_on.true) _ c.type_step.result c.settled.result _
-    next.after_type-next.ensures c.type_step.ensures c.settled.ensures)
+    type-stepped c.args.s _ _ _ (c.type_goes_on.ensures c.if-type_goes_on.true) _ c.type_step.result c.settled.result _
+    c.after_type-next.ensures c.type_step.ensures c.settled.ensures)
     (λ c κs. search rules)
     (λ c κs. search rules)
     (λ c κs. search rules)
     (λ c.
-    let asked = c in
-    fields-stepped asked.args.s _ _ _ c.field_list_step.result c.within_body.result _
-    (sym asked.in_fields.ensures ∙ c.if-in_fields.true) c.field_list_step.ensures c.within_body.ensures)
+    fields-stepped c.args.s _ _ _ c.field_list_step.result c.within_body.result _
+    (sym c.in_fields.ensures ∙ c.if-in_fields.true) c.field_list_step.ensures c.within_body.ensures)
     (λ c κs.
-    let asked = c in
-    (asked.requires, sym asked.in_fields.ensures ∙ c.if-in_fields.false))
+    (c.requires, sym c.in_fields.ensures ∙ c.if-in_fields.false))
     (λ c. search rules))

@@ -12,5 +12,4 @@ type_goes_on_spec =
     (λ c κs. search rules)
     (λ c κs. search rules)
     (λ c.
-    let start = c in
-    goes_on start.args.body start.args.item _ _ _ _ _ c.is_message.ensures c.is_typed.ensures c.is_type.ensures))
+    goes_on c.args.body c.args.item _ _ _ _ _ c.is_message.ensures c.is_typed.ensures c.is_type.ensures))

@@ -12,8 +12,6 @@ variant_item_spec =
     (λ c κs. search rules)
     (λ c κs. search rules)
     (λ c.
-    let asked = c in
-    λ stack s. leads-at c.union_item.result _ _ stack _ (variant-begins _ _ refl asked.requires asked.args.item stack _ _ asked.is_done.ensures c.if-is_done.true) s c.union_item.ensures)
+    λ stack s. leads-at c.union_item.result _ _ stack _ (variant-begins _ _ refl c.requires c.args.item stack _ _ c.is_done.ensures c.if-is_done.true) s c.union_item.ensures)
     (λ c.
-    let asked = c in
-    λ stack s. (variant-fault _ _ refl asked.requires asked.args.item stack _ _ asked.is_done.ensures c.if-is_done.false, tt)))
+    λ stack s. (variant-fault _ _ refl c.requires c.args.item stack _ _ c.is_done.ensures c.if-is_done.false, tt)))

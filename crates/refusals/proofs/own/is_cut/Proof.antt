@@ -13,6 +13,5 @@ is_cut_spec =
     (λ c κs. search rules)
     (λ c κs. search rules)
     (λ c.
-    let asked = c in
-    cut-named _ _ _ asked.name_end.ensures _ _ _ asked.if-names-name_end.true c.kind.ensures c.byte.ensures c.is_named.ensures)
+    cut-named _ _ _ c.name_end.ensures _ _ _ c.if-names-name_end.true c.kind.ensures c.byte.ensures c.is_named.ensures)
     (λ c. name-fits _ _ _ c.name_end.ensures c.if-names-name_end.false))

@@ -12,6 +12,5 @@ is_too_great_spec =
     (λ c κs. search rules)
     (λ c κs. search rules)
     (λ c.
-    let asked = c in
-    great-read _ _ asked.value.ensures _ _ asked.if-value-gt-MAX_ORDINAL.true c.kind.ensures c.has_ordinal.ensures)
+    great-read _ _ c.value.ensures _ _ c.if-value-gt-MAX_ORDINAL.true c.kind.ensures c.has_ordinal.ensures)
     (λ c. small-read _ _ c.value.ensures c.if-value-gt-MAX_ORDINAL.false))

@@ -13,9 +13,7 @@ declared_spec =
     (λ c. declared-other _ _ _ _ _ _ c.in-To.is c.if-kind-ne-DECLARATION.true)
     (λ c κs. search rules)
     (λ c.
-    let asked = c in
-    declared-second _ _ _ _ _ _ asked.in-To.is asked.if-kind-ne-DECLARATION.false _ c.is_second.ensures c.if-is_second.true)
+    declared-second _ _ _ _ _ _ c.in-To.is c.if-kind-ne-DECLARATION.false _ c.is_second.ensures c.if-is_second.true)
     (λ c. declared-fault _ _ _ c.in-Fault.is)
     (λ c.
-    let asked = c in
-    declared-first _ _ _ _ _ _ asked.in-To.is asked.if-kind-ne-DECLARATION.false _ c.is_second.ensures c.if-is_second.false))
+    declared-first _ _ _ _ _ _ c.in-To.is c.if-kind-ne-DECLARATION.false _ c.is_second.ensures c.if-is_second.false))

@@ -38,35 +38,30 @@ first_fault_spec =
     (λ c. search rules)
     (λ c. omega arith)
     (λ c.
-    let turn = c in
-    let loop = turn.loop-i in
+    let loop = c.loop-i in
     let step = c.record_step in (
-      pass-fault _ _ _ _ _ _ loop.invariant.3 _ (count-below _ _ _ loop.invariant.0 turn.loop-i-test.true)
+      pass-fault _ _ _ _ _ _ loop.invariant.3 _ (count-below _ _ _ loop.invariant.0 c.loop-i-test.true)
           (fault-found step.result _ _ step.ensures _ c.in-Fault.is),
       tt,
     ))
     (λ c. search rules)
     (λ c κs.
-    let turn = c in
-    (turn.loop-i.invariant.4, omega arith))
+    (c.loop-i.invariant.4, omega arith))
     (λ c. omega arith)
     (λ c κs.
-    let told = c in
-    let step = told.record_step in
-    let loop = told.loop-i in
-    (sound-found step.result _ _ step.ensures _ _ _ told.in-To.is, omega arith, loop.invariant.0))
+    let step = c.record_step in
+    let loop = c.loop-i in
+    (sound-found step.result _ _ step.ensures _ _ _ c.in-To.is, omega arith, loop.invariant.0))
     (λ c. omega (arith, c.run_end-i.ensures.least))
     (λ c.
-    let told = c in
-    let turn = told in
-    let loop = turn.loop-i in
-    let step = told.record_step in
+    let loop = c.loop-i in
+    let step = c.record_step in
     let ran = c.run_end-i.ensures in (
       loop.invariant.0,
       omega (arith, ran.most),
       ran.sound,
-      ran.same _ ∙ pass-again _ _ _ _ _ _ loop.invariant.3 _ (count-below _ _ _ loop.invariant.0 turn.loop-i-test.true)
-          (state-found step.result _ _ step.ensures _ _ _ told.in-To.is),
+      ran.same _ ∙ pass-again _ _ _ _ _ _ loop.invariant.3 _ (count-below _ _ _ loop.invariant.0 c.loop-i-test.true)
+          (state-found step.result _ _ step.ensures _ _ _ c.in-To.is),
       ran.ended _ c.newtypes_end-end.ensures,
     ))
     (λ c κs. search rules)

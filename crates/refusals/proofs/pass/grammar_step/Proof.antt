@@ -14,7 +14,5 @@ grammar_step_spec =
     (λ c κs. search rules)
     (λ c κs. search rules)
     (λ c.
-    let asked = c in
-    let start = asked in
-    grammar-stepped _ (record_bytes start.args.sheet.now start.args.i) _ _ _ c.step-next.result c.declared.result _
-    asked.kind-kind.ensures asked.byte-sub.ensures c.step-next.ensures c.declared.ensures))
+    grammar-stepped _ (record_bytes c.args.sheet.now c.args.i) _ _ _ c.step-next.result c.declared.result _
+    c.kind-kind.ensures c.byte-sub.ensures c.step-next.ensures c.declared.ensures))

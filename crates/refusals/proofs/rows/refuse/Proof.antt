@@ -17,21 +17,15 @@ refuse_spec =
     (λ c. search rules)
     (λ c. search rules)
     (λ c κs.
-    let passed = c in
-    let short = passed in
     let end = c.in-Accepted.is in (
-      short-sheet short.args.sheet.now short.if-sheet.false,
-      ended-found passed.first_fault.result _ _ passed.first_fault.ensures.1 end,
-      passed-lasting _ _ _ short.requires short.if-sheet.false passed.first_fault.result passed.first_fault.ensures.0 _ end,
+      short-sheet c.args.sheet.now c.if-sheet.false,
+      ended-found c.first_fault.result _ _ c.first_fault.ensures.1 end,
+      passed-lasting _ _ _ c.requires c.if-sheet.false c.first_fault.result c.first_fault.ensures.0 _ end,
     ))
     (λ c.
-    let passed = c in
-    let asked = passed in
-    (rows-3-to-8 _ _ _ asked.if-sheet.false (search rules) passed.first_fault.result passed.first_fault.ensures.0 _ _ c.in-Refused.is, same-itself _))
-    (λ c.
-    let passed = c in
-    let asked = passed in (
-      row-9 _ _ _ asked.if-sheet.false (search rules) passed.first_fault.result passed.first_fault.ensures.0 _ _ c.in-Accepted.is
+    (rows-3-to-8 _ _ _ c.if-sheet.false (search rules) c.first_fault.result c.first_fault.ensures.0 _ _ c.in-Refused.is, same-itself _))
+    (λ c. (
+      row-9 _ _ _ c.if-sheet.false (search rules) c.first_fault.result c.first_fault.ensures.0 _ _ c.in-Accepted.is
           c.endless.ensures.0,
       c.endless.ensures.1,
     )))

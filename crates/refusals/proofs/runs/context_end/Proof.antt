@@ -19,8 +19,7 @@ context_end_spec =
     (λ c. search rules)
     (λ c. search rules)
     (λ c. λ stack sound.
-    let start = c in
-    ran-imports _ _ stack _ _ _ _ _ sound start.requires.1 (search rules) c.in-Between.is c.plain_end.ensures)
+    ran-imports _ _ stack _ _ _ _ _ sound c.requires.1 (search rules) c.in-Between.is c.plain_end.ensures)
     (λ c. λ stack sound. search laws)
     (λ c. λ stack sound. search laws)
     (λ c. λ stack sound. search laws)

@@ -17,11 +17,8 @@ is_plain_spec =
     (λ c κs. search rules)
     (λ c. search rules)
     (λ c. λ h.
-    let read = c in
-    rw c.in-Imports.is (plain-named _ _ _ _ _ read.byte-kind.ensures read.byte-clean.ensures Imports 2 _ (λ n e. e) c.name_end.ensures h))
+    rw c.in-Imports.is (plain-named _ _ _ _ _ c.byte-kind.ensures c.byte-clean.ensures Imports 2 _ (λ n e. e) c.name_end.ensures h))
     (λ c. λ h.
-    let read = c in
-    rw c.in-BitNames.is (plain-named _ _ _ _ _ read.byte-kind.ensures read.byte-clean.ensures BitNames 22 _ (λ n e. e) c.name_end-in-BitNames.ensures h))
+    rw c.in-BitNames.is (plain-named _ _ _ _ _ c.byte-kind.ensures c.byte-clean.ensures BitNames 22 _ (λ n e. e) c.name_end-in-BitNames.ensures h))
     (λ c. λ h.
-    let read = c in
-    rw c.in-Nests.is (plain-nest _ _ _ _ _ read.byte-kind.ensures read.byte-clean.ensures h)))
+    rw c.in-Nests.is (plain-nest _ _ _ _ _ c.byte-kind.ensures c.byte-clean.ensures h)))

@@ -23,6 +23,5 @@ message_end_spec =
     (λ c. search laws)
     (λ c. rw c.in-Typed.is c.nests_end.ensures)
     (λ c.
-    let start = c in
-    ran_bits _ _ _ _ _ _ _ _ start.requires.0 start.requires.2 c.in-BitNames.is c.plain_end.ensures)
+    ran_bits _ _ _ _ _ _ _ _ c.requires.0 c.requires.2 c.in-BitNames.is c.plain_end.ensures)
     (λ c. search laws))

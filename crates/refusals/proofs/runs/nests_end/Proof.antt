@@ -18,8 +18,7 @@ nests_end_spec =
     (λ c. omega (arith, sound-height _ _ c.requires.0))
     (λ c. search laws)
     (λ c.
-    let start = c in
-    omega (arith, start.requires.0.bounded (start.args.height - 1) (omega arith)))
+    omega (arith, c.requires.0.bounded (c.args.height - 1) (omega arith)))
     (λ c. omega arith)
     (λ c. omega arith)
     (λ c κs. search rules)
@@ -28,12 +27,9 @@ nests_end_spec =
     (λ c. omega arith)
     (λ c. omega arith)
     (λ c.
-    let start = c in
-    omega (arith, start.requires.0.bounded (start.args.height - 1) (omega arith)))
+    omega (arith, c.requires.0.bounded (c.args.height - 1) (omega arith)))
     (λ c. omega (arith, sound-height _ _ c.requires.0))
     (λ c.
-    let asked = c in
-    let start = asked in
     let limit = c.least-limit.ensures in
-    ran-nests _ _ _ _ _ _ _ _ start.requires.0 asked.if-height-eq0.false asked.if-entry-ne0.false c.plain_end-end.ensures.0 c.plain_end-end.ensures.1 limit.0
-    limit.1 start.requires.2 c.plain_end-end.ensures.2))
+    ran-nests _ _ _ _ _ _ _ _ c.requires.0 c.if-height-eq0.false c.if-entry-ne0.false c.plain_end-end.ensures.0 c.plain_end-end.ensures.1 limit.0
+    limit.1 c.requires.2 c.plain_end-end.ensures.2))

@@ -39,13 +39,10 @@ check_bit_names_spec =
     (λ c κs. search rules)
     (λ c. search laws)
     (λ c. search laws)
-    (λ c.
-    let told = c in
-    let turn = told in
-    let at = turn in (
+    (λ c. (
       search rules,
-      bit-next _ _ _ _ _ _ _ _ _ _ _ at.loop-i.invariant.1 at.loop-i-test.true turn.kind.ensures turn.if-kind-ne-BIT_NAME.false
-          turn.is_valid_field_name-valid.ensures told.error.ensures c.push_if-counts.ensures,
+      bit-next _ _ _ _ _ _ _ _ _ _ _ c.loop-i.invariant.1 c.loop-i-test.true c.kind.ensures c.if-kind-ne-BIT_NAME.false
+          c.is_valid_field_name-valid.ensures c.error.ensures c.push_if-counts.ensures,
     ))
     (λ c. search laws)
     (λ c. search laws))
