@@ -3,7 +3,6 @@ use Rattle.std.proofs.Common.{arith}
 use Rattle.program.proofs.Printed.{told-printed}
 use Rattle.program.proofs.text.lines.Goals as goal
 
--- src/text.rt:11:1
 pub returns : goal.returns
 returns c =
     let checked = c.vexil_check-values.ensures in
