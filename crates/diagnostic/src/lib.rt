@@ -3,5 +3,7 @@
 
 mod encode;
 mod list;
+mod violations;
 
 pub use list::{push, push_if};
+pub use violations::Violations;

@@ -5,6 +5,7 @@ mod asked;
 mod clear;
 mod codes;
 mod compare;
+mod context;
 mod count;
 mod hash;
 mod ids;
@@ -20,6 +21,7 @@ mod whole;
 mod words;
 
 pub use compare::same_bytes;
+pub use context::ValidationContext;
 pub use lookup::{code, declaration, declarations, has_wildcard, id, is_imported, target};
 pub use shorten::set_target;
 pub use whole::fill;

@@ -3,8 +3,9 @@ use Rattle.std.specs.Prelude.{ℕ, Bool, true, false, List, map, length, eqb}
 use Rattle.std.proofs.Math.Option.{some, none}
 use Rattle.rules.specs.declared.span.Span.{Span}
 use Rattle.rules.specs.declared.violation.Violation.{Violation}
-use Rattle.rules.specs.declared.answer.Answer.{Answer}
-use Rattle.rules.specs.declared.answer.Answer.TheVariants.{Accepted, Refused}
+use Rattle.std.specs.Prelude.{Result, Ok, Err}
+use Rattle.rules.specs.declared.answer.Counts.{Counts}
+use Rattle.rules.specs.declared.answer.Refused.{Refused}
 use Rattle.rules.specs.declared.answer.Refusal.{Refusal}
 use Rattle.rules.specs.declared.answer.Refusal.TheVariants.{SheetLength, NamesLength, Unknown, NameRange, OrdinalRange, OutOfOrder, TooDeep, SecondDeclaration, EndlessChain}
 use Rattle.rules.specs.declared.answer.AnswerValues.{AnswerValues}
@@ -55,6 +56,6 @@ number_of SecondDeclaration = 8
 number_of EndlessChain = 9
 
 -- the numbers of each answer that code gives: promises say `values_of r ≡ answer sheet names`
-abbrev pub values_of : Answer → AnswerValues
-values_of (Accepted counts) = record { number = 0; index = 0; total = counts.total; errors = counts.errors }
-values_of (Refused why index) = record { number = number_of why; index = index; total = 0; errors = 0 }
+abbrev pub values_of : Result Counts Refused → AnswerValues
+values_of (Ok counts) = record { number = 0; index = 0; total = counts.total; errors = counts.errors }
+values_of (Err refused) = record { number = number_of refused.refusal; index = refused.index; total = 0; errors = 0 }

@@ -23,3 +23,4 @@ pub mod Table
 pub mod Items
 pub mod Refused
 pub mod Asked
+pub mod Range

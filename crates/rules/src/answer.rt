@@ -1,7 +1,9 @@
 // What the check answers.
+ghost use Rattle.std.specs.Prelude.{◌≡◌};
+ghost use Rattle.rules.specs.Answer.{number_of, values_of};
 
 // The nine refusals, in the order of their numbers, 1 to 9.
-#[derive(Clone, Copy)]
+#[derive(Clone, Copy, PartialEq, Eq)]
 pub enum Refusal {
     SheetLength,
     NamesLength,
@@ -14,25 +16,69 @@ pub enum Refusal {
     EndlessChain,
 }
 
+// The number of a refusal.
+impl From<Refusal> for u32 {
+    fn from(refusal: Refusal) -> u32
+        ensures { result ≡ number_of refusal }
+    {
+        match refusal {
+            Refusal::SheetLength => 1,
+            Refusal::NamesLength => 2,
+            Refusal::Unknown => 3,
+            Refusal::NameRange => 4,
+            Refusal::OrdinalRange => 5,
+            Refusal::OutOfOrder => 6,
+            Refusal::TooDeep => 7,
+            Refusal::SecondDeclaration => 8,
+            Refusal::EndlessChain => 9,
+        }
+    }
+}
+
+// Why a sheet and its names text are turned down, and at which record.
+#[derive(Clone, Copy, PartialEq, Eq)]
+pub struct Refused {
+    pub refusal: Refusal,
+    pub index: u32,
+}
+
 // What is counted of the full list.
-#[derive(Clone, Copy)]
+#[derive(Clone, Copy, PartialEq, Eq)]
 pub struct Counts {
     pub total: u32,
     pub errors: u32,
 }
 
-#[derive(Clone, Copy)]
-pub enum Answer {
-    Accepted(Counts),
-    Refused { refusal: Refusal, index: u32 },
-}
+pub type Answer = Result<Counts, Refused>;
 
-// An answer as the numbers of document 01. `specs/Answer.antt` gives them for each case of `Answer`.
+// An answer as the numbers of document 01. `specs/Answer.antt` gives them for each case of an answer.
 #[repr(C)]
-#[derive(Clone, Copy)]
+#[derive(Clone, Copy, PartialEq, Eq)]
 pub struct AnswerValues {
     pub number: u32,
     pub index: u32,
     pub total: u32,
     pub errors: u32,
+}
+
+// The four numbers of an answer.
+impl From<Answer> for AnswerValues {
+    fn from(answer: Answer) -> AnswerValues
+        ensures { result ≡ values_of answer }
+    {
+        match answer {
+            Ok(counts) => AnswerValues {
+                number: 0,
+                index: 0,
+                total: counts.total,
+                errors: counts.errors,
+            },
+            Err(refused) => AnswerValues {
+                number: u32::from(refused.refusal),
+                index: refused.index,
+                total: 0,
+                errors: 0,
+            },
+        }
+    }
 }

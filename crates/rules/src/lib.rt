@@ -3,11 +3,13 @@
 #![tactic(auto)]
 
 mod answer;
+mod range;
 mod sheet;
 mod span;
 mod violation;
 
-pub use answer::{Answer, AnswerValues, Counts, Refusal};
+pub use answer::{Answer, AnswerValues, Counts, Refusal, Refused};
+pub use range::RecordRange;
 pub use sheet::Sheet;
 pub use span::Span;
 pub use violation::Violation;

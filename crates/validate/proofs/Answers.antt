@@ -11,8 +11,8 @@ use borrow.Author.Tests.{le-leb}
 use Rattle.rules.specs.declared.answer.Counts.{Counts}
 use Rattle.rules.specs.declared.answer.Refusal.{Refusal}
 use Rattle.rules.specs.declared.answer.AnswerValues.{AnswerValues}
-use Rattle.rules.specs.declared.answer.Answer.{Answer}
-use Rattle.rules.specs.declared.answer.Answer.TheVariants.{Accepted, Refused}
+use Rattle.std.specs.Prelude.{Result, Ok, Err}
+use Rattle.rules.specs.declared.answer.Refused.{Refused}
 use Rattle.rules.specs.Words.{only_if}
 use Rattle.rules.specs.Record.{record_size}
 use Rattle.rules.specs.Refusals.{refusal}
@@ -35,7 +35,7 @@ module _ (sheet names old : List ℕ) where
   -- a refusal
   pub refused-answered :
       (v : Verdict) (why : Refusal) (index : ℕ) → verdict_of v ≡ refusal sheet names → v ≡ Verdict.Refused why index →
-      Answered sheet names old (values_of (Refused why index)) old
+      Answered sheet names old (values_of (Err (record { refusal = why; index = index }))) old
   unfolding answer buffer_after
   refused-answered v why index h e =
       let told : refusal sheet names ≡ some (record { number = number_of why; index = index }) = sym h ∙ ap verdict_of e in
@@ -69,26 +69,15 @@ module _ (sheet names old : List ℕ) where
       ◌≡◌ {A = List ℕ × Counts} (list, counts)
       (push_found (only_if (leb (length sheet) 32768) (violations_of (context_by table sheet) (view_of sheet 0 (length sheet / record_size))))
       (old, record { total = 0; errors = 0 })) →
-      Answered sheet names old (values_of (Accepted counts)) list
+      Answered sheet names old (values_of (Ok counts)) list
   unfolding answer buffer_after
   accepted-answered v table list counts h ends e hs =
       let told : refusal sheet names ≡ none = sym h ∙ ap verdict_of e in
       let all = listed table (list, counts) told ends hs in
-      (rw (told, answer) (ap (λ s. values_of (Accepted s.1)) all), rw (told, buffer_after) (ap (λ s. s.0) all))
-
--- the numbers of each answer
-pub accepted-values :
-    (a : Answer) (counts : Counts) → a ≡ Accepted counts →
-    ◌≡◌ {A = AnswerValues} (record { number = 0; index = 0; total = counts.total; errors = counts.errors }) (values_of a)
-accepted-values a counts e = rw e refl
-
-pub refused-values :
-    (a : Answer) (why : Refusal) (index number : ℕ) → a ≡ Refused why index → number ≡ number_of why →
-    ◌≡◌ {A = AnswerValues} (record { number = number; index = index; total = 0; errors = 0 }) (values_of a)
-refused-values a why index number e h = rw (e, h) refl
+      (rw (told, answer) (ap (λ s. values_of (Ok s.1)) all), rw (told, buffer_after) (ap (λ s. s.0) all))
 
 -- the answer as numbers
 pub told-answered :
-    (sheet names old list : List ℕ) (a : Answer) (values : AnswerValues) → Answered sheet names old (values_of a) list → values ≡ values_of a →
+    (sheet names old list : List ℕ) (a : Result Counts Refused) (values : AnswerValues) → Answered sheet names old (values_of a) list → values ≡ values_of a →
     Answered sheet names old values list
 told-answered sheet names old list a values h e = rw e h

@@ -3,7 +3,6 @@
 
 ghost use Rattle.validate.specs.Answered.{Answered, IsBytes};
 
-mod values;
 mod whole;
 
 use rules::AnswerValues;
@@ -15,5 +14,5 @@ pub fn vexil_check(sheet: &[u8], names: &[u8], list: &mut [u8]) -> AnswerValues
     ensures answered { Answered sheet.now names.now list.old result list.new }
     ensures bytes { IsBytes sheet.now }
 {
-    values::values_of(check(sheet, names, list))
+    AnswerValues::from(check(sheet, names, list))
 }

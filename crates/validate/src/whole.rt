@@ -3,7 +3,7 @@ ghost use Rattle.rules.specs.Answer.{values_of};
 ghost use Rattle.validate.specs.Answered.{Answered};
 
 use refusals::Verdict;
-use rules::{Answer, Counts};
+use rules::{Answer, Counts, Refused};
 
 // Answers for a sheet and a names text, and lists the violations.
 pub fn check(sheet: &[u8], names: &[u8], list: &mut [u8]) -> Answer
@@ -11,13 +11,13 @@ pub fn check(sheet: &[u8], names: &[u8], list: &mut [u8]) -> Answer
 {
     let mut table = [0; 5122];
     match refusals::accept(sheet, names, &mut table) {
-        Verdict::Refused { refusal, index } => Answer::Refused { refusal, index },
+        Verdict::Refused { refusal, index } => Err(Refused { refusal, index }),
         Verdict::Accepted => {
             let counts = Counts {
                 total: 0,
                 errors: 0,
             };
-            Answer::Accepted(bodies::check_declaration(sheet, &table, list, counts))
+            Ok(bodies::check_declaration(sheet, &table, list, counts))
         }
     }
 }

@@ -1,0 +1,60 @@
+// The violations of a check so far: in the list that the caller lends those that fit it, and the counts of all.
+ghost use Rattle.std.specs.Prelude.{◌≡◌};
+ghost use Rattle.rules.specs.Record.{record_bytes, span_in};
+ghost use Rattle.diagnostic.specs.Push.{push_one, push_if};
+ghost use Rattle.diagnostic.specs.Violations.{state_of};
+
+use crate::list;
+use rules::{Counts, Violation};
+
+#[derive(Drop)]
+pub struct Violations<'a> {
+    pub list: &'a mut [u8],
+    pub counts: Counts,
+}
+
+impl<'a> Violations<'a> {
+    // None yet, in that list.
+    pub fn new(list: &'a mut [u8]) -> Violations<'a>
+        ensures reference { result.list.ghost_name ≡ list.entry.ghost_name }
+        ensures state { state_of result ≡ (list.old, record { total = 0; errors = 0 }) }
+    {
+        Violations {
+            list,
+            counts: Counts {
+                total: 0,
+                errors: 0,
+            },
+        }
+    }
+
+    // Adds the violation.
+    pub fn push(&mut self, violation: Violation)
+        ensures reference { self.new.list.ghost_name ≡ self.old.list.ghost_name }
+        ensures state { state_of self.new ≡ push_one violation (state_of self.old) }
+    {
+        self.counts = list::push(self.list, self.counts, violation);
+    }
+
+    // Adds the violation if `bad`.
+    #[tactic(auto, unfolding(crate::specs::Push::push_if))]
+    pub fn push_if(&mut self, bad: bool, violation: Violation)
+        ensures reference { self.new.list.ghost_name ≡ self.old.list.ghost_name }
+        ensures state { state_of self.new ≡ push_if bad violation (state_of self.old) }
+    {
+        if bad {
+            self.push(violation);
+        }
+    }
+
+    // Adds an error of that class at record `i` if `bad`. The span is read only where it is told.
+    #[tactic(auto, unfolding(crate::specs::Push::push_if))]
+    pub fn error_if(&mut self, bad: bool, sheet: &[u8], i: usize, class: u16)
+        ensures reference { self.new.list.ghost_name ≡ self.old.list.ghost_name }
+        ensures state { state_of self.new ≡ push_if bad (record { class = class; severity = 0; span = span_in (record_bytes sheet.now i) }) (state_of self.old) }
+    {
+        if bad {
+            self.push(Violation::error(sheet::span(sheet, i), class));
+        }
+    }
+}
