@@ -3,3 +3,4 @@ pub mod OnePush
 pub mod Pushes
 pub mod Written
 pub mod FoundPushes
+pub mod Added
