@@ -53,3 +53,4 @@ pub mod Mapped
 pub mod Renamed
 pub mod RenamedFields
 pub mod RenamedBodies
+pub mod LittleEndian
