@@ -2,6 +2,7 @@ pub mod Views
 pub mod WordCodes
 pub mod FoundSteps
 pub mod Slots
+pub mod Entered
 pub mod Repeats
 pub mod Single
 pub mod Reasons

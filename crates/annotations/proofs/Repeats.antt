@@ -1,11 +1,11 @@
 -- Rule 22 record by record: the annotations before a record are those that the definition has met, the last first, so a scan back from
 -- the record asks them all.
-use Prim.Native.Nat.{ℕ, zero, suc, ◌+◌, ◌-◌, ◌%◌, ◌≤◌, ◌<◌}
-use mathlib.Core.Path.{◌≡◌, refl, ◌∙◌, sym, ap}
-use mathlib.Core.Bool.{Bool, true, false}
+use Prim.Native.Nat.{ℕ, zero, suc, ◌+◌, ◌-◌, ◌≤◌, ◌<◌}
+use mathlib.Core.Path.{◌≡◌, refl, ◌∙◌, sym}
+use mathlib.Core.Bool.{Bool, true, false, not, ◌&&◌}
 use mathlib.Core.List.{List, [], ◌∷◌, ◌++◌}
 use native.Mathlib.Omega.{arith}
-use lib.ListN.{set}
+use lib.Dec.{eqb}
 use borrow.Author.Tests.{eq-eqb, ne_eqb}
 use Rattle.rules.specs.declared.span.Span.{Span}
 use Rattle.rules.specs.declared.violation.Violation.{Violation}
@@ -17,11 +17,11 @@ use Rattle.rules.specs.Annotations.{annotations_of, duplicate_annotations}
 use Rattle.names.specs.View.{view_at, view_of, context_by, entry_of, id_part, code_part}
 use Rattle.diagnostic.specs.Push.{State, push_if, push_found}
 use Rattle.annotations.specs.AnnotationAt.{annotation_at}
-use Rattle.annotations.specs.Slots.{has_key, Slotted}
-use Rattle.annotations.specs.Earlier.{is_annotation, earlier_of, earlier, repeats_at}
-use Rattle.annotations.proofs.Slots.{slotted-added}
+use Rattle.annotations.specs.Slots.{has_key}
+use Rattle.annotations.specs.Met.{Row, is_met}
+use Rattle.annotations.specs.Earlier.{is_annotation, earlier_of, earlier, is_compared_at, repeats_at}
 use Rattle.annotations.proofs.Views.{is-annotation, is-other, annotations-next, annotations-other, annotations-none}
-use Rattle.annotations.proofs.WordCodes.{word-here, word-other}
+use Rattle.annotations.proofs.WordCodes.{word-is}
 use Rattle.annotations.proofs.FoundSteps.{found-step, pushed-if, found-end}
 
 module _ (sheet : List ℕ) (a : ℕ) where
@@ -68,9 +68,9 @@ module _ (table sheet : List ℕ) (a i id : ℕ) (hi : id ≡ entry_of id_part t
   unfolding any_of
   scan-none j before h = rw (before, earlier-none sheet a j h)
 
--- the slots of the annotations
+-- the annotations before a record, by their indices and one by one
 module _ (table sheet : List ℕ) (a : ℕ) where
-  slotted-same :
+  pub slotted-same :
       (i n : ℕ) → has_key (is_annotation sheet) (entry_of id_part table) a (entry_of id_part table i) n ≡ any_of ((context_by table sheet).same i) (earlier_of sheet a n)
   unfolding has_key any_of earlier_of context_by
   slotted-same i zero = refl
@@ -83,33 +83,18 @@ module _ (table sheet : List ℕ) (a : ℕ) where
       go ih true t = rw (t, ih)
       go ih false t = rw (t, ih)
 
-  -- record i is met, and added
-  pub slotted-meet :
-      (slots : List ℕ) (i id b place : ℕ) (r : Bool) → Slotted (is_annotation sheet) (entry_of id_part table) a slots i →
-      is_annotation sheet i ≡ true → id ≡ entry_of id_part table i →
-      r ≡ has_key (is_annotation sheet) (entry_of id_part table) a id (i - a) → b ≡ id % 1024 → place ≡ i + 1 →
-      (r ≡ any_of ((context_by table sheet).same i) (earlier sheet a i))
-      × Slotted (is_annotation sheet) (entry_of id_part table) a (set slots b place) (i + 1)
-  slotted-meet slots i id b place r c t hi hr hb hp = (
-    hr ∙ ap (λ v. has_key (is_annotation sheet) (entry_of id_part table) a v (i - a)) hi ∙ slotted-same i (i - a),
-    slotted-added (is_annotation sheet) (entry_of id_part table) a slots i id b place t hi hb hp c,
-  )
+-- the annotation before record i that has its name is the one that the definition has met
+pub met_again :
+    (table sheet : List ℕ) (row : Row) (i : ℕ) (r : Bool) → row.sheet ≡ sheet → row.table ≡ table → row.kind ≡ 20 → r ≡ is_met row i →
+    r ≡ any_of ((context_by table sheet).same i) (earlier sheet row.start i)
+met_again table sheet row i r hs ht hk h = h ∙ rw (hs, ht, hk) (slotted-same table sheet row.start i (i - row.start))
 
--- whether record i repeats an annotation
-module _ (table sheet : List ℕ) (a i k : ℕ) (hk : k ≡ kind_in (record_bytes sheet i)) where
-  pub repeat-other : (k ≡ 20 → ⊥) → false ≡ repeats_at table sheet a i
-  unfolding repeats_at
-  repeat-other other = rw (is-other sheet i k hk other)
-
-  module _ (c : ℕ) (here : k ≡ 20) (hc : c ≡ entry_of code_part table i) where
-    pub repeat-doc : c ≡ 6 → false ≡ repeats_at table sheet a i
-    unfolding repeats_at
-    repeat-doc h = rw (is-annotation sheet i k hk here, word-here table sheet i 6 (omega arith) (omega arith) c hc h)
-
-    pub repeat-found :
-        (r : Bool) → (c ≡ 6 → ⊥) → r ≡ any_of ((context_by table sheet).same i) (earlier sheet a i) → r ≡ repeats_at table sheet a i
-    unfolding repeats_at
-    repeat-found r h e = rw (is-annotation sheet i k hk here, word-other table sheet i 6 (omega arith) (omega arith) c hc h) e
+-- whether record i may repeat an annotation, by its kind and its code
+pub compared_by :
+    (table sheet : List ℕ) (i k c : ℕ) → k ≡ kind_in (record_bytes sheet i) → c ≡ entry_of code_part table i →
+    eqb k 20 && not (eqb c 6) ≡ is_compared_at table sheet i
+unfolding is_compared_at view_at
+compared_by table sheet i k c hk hc = rw (word-is table sheet i 6 (omega arith) (omega arith) c hc, ← hk)
 
 -- what rule 22 finds from record i on, after the annotations before it
 module _ (table sheet : List ℕ) (a e : ℕ) where
@@ -119,7 +104,7 @@ module _ (table sheet : List ℕ) (a e : ℕ) where
   duplicates-next :
       (i : ℕ) → i < e → a ≤ i →
       duplicates_from i ≡ found_if 22 (repeats_at table sheet a i) (span_in (record_bytes sheet i)) ++ duplicates_from (i + 1)
-  unfolding duplicates_from duplicate_annotations repeats_at annotation_at view_at
+  unfolding duplicates_from duplicate_annotations is_compared_at annotation_at view_at
   duplicates-next i h l = by_kind (is Kind.Annotation (view_at sheet i)) refl
     where
       by_kind :

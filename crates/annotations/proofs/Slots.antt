@@ -3,12 +3,12 @@ use Prim.Native.Nat.{ℕ, zero, suc, ◌+◌, ◌-◌, ◌%◌, ◌≤◌, ◌<�
 use native.Mathlib.Decide.{ℕ_discrete}
 use native.Mathlib.Omega.{arith}
 use mathlib.Core.Path.{◌≡◌, refl, sym, ap, ◌∙◌}
-use mathlib.Core.Bool.{Bool, true, false, ◌&&◌, ◌||◌, or-true, true≢false}
+use mathlib.Core.Bool.{Bool, true, false, ◌&&◌, or-true, true≢false}
 use mathlib.Core.List.{List}
 use lib.ListN.{get_or, set, replicate, length-set, length-replicate}
 use lib.Seq.{get_or-set_same, get_or-set_other}
 use lib.Dec.{eqb}
-use borrow.Author.Tests.{eq-eqb, ne_eqb}
+use borrow.Author.Tests.{eq-eqb, ne_eqb, eqb-true}
 use Rattle.annotations.specs.Slots.{has_key, Behind, Slotted, Ready}
 
 -- no slot has a record yet
@@ -25,6 +25,10 @@ ready-new a = (length-replicate {A = ℕ} 1024 0, λ b. omega (arith, zero-at 10
 pub ready-later : (slots : List ℕ) (a e : ℕ) → Ready slots a → a ≤ e → Ready slots e
 unfolding Ready
 ready-later slots a e r h = (r.0, λ b. omega (arith, r.1 b))
+
+and-both : (b c : Bool) → b && c ≡ true → (b ≡ true) × (c ≡ true)
+and-both true c h = (refl, h)
+and-both false c h = absurd (true≢false (sym h))
 
 module _ (on : ℕ → Bool) (key : ℕ → ℕ) (a : ℕ) where
   -- nothing is on from a up to a
@@ -105,19 +109,20 @@ module _ (on : ℕ → Bool) (key : ℕ → ℕ) (a : ℕ) where
         let back : a + (q - 1 - a) ≡ q - 1 = omega arith in
         sym (has-among v (i - a) (q - 1 - a) (omega (arith, last-there.0)) (ap on back ∙ (last-there.2 h).0) (ap key back ∙ sym hk ∙ e))
 
-  -- the records one by one
-  pub asked-none : (v : ℕ) → false ≡ has_key on key a v (a - a)
+  -- all were asked
+  pub all-asked :
+      (v i : ℕ) (r : Bool) → (r ≡ true → (j : ℕ) × (a ≤ j) × (j < i) × (on j && eqb v (key j) ≡ true)) →
+      (r ≡ false → (j : ℕ) → a ≤ j → j < i → on j && eqb v (key j) ≡ false) → r ≡ has_key on key a v (i - a)
   unfolding has_key
-  asked-none v = let none : a - a ≡ 0 = omega arith in rw none
-
-  pub asked-next :
-      (v j k : ℕ) (found here : Bool) → found ≡ has_key on key a v (j - a) → a ≤ j → here ≡ on j → k ≡ key j →
-      (here && eqb v k) || found ≡ has_key on key a v (j + 1 - a)
-  unfolding has_key
-  asked-next v j k found here h le ho hk =
-      let more : j + 1 - a ≡ suc (j - a) = omega arith in
-      let back : a + (j - a) ≡ j = omega arith in
-      rw (more, back, h, ho, hk)
-
-  pub asked-all : (v j i : ℕ) (found : Bool) → found ≡ has_key on key a v (j - a) → j ≤ i → i ≤ j → found ≡ has_key on key a v (i - a)
-  asked-all v j i found h le ge = let same : j ≡ i = omega arith in h ∙ ap (λ n. has_key on key a v (n - a)) same
+  all-asked v i true some none = go (some refl)
+    where
+      go : (j : ℕ) × (a ≤ j) × (j < i) × (on j && eqb v (key j) ≡ true) → true ≡ has_key on key a v (i - a)
+      go h =
+          let back : a + (h.0 - a) ≡ h.0 = omega arith in
+          let both = and-both (on h.0) (eqb v (key h.0)) h.3 in
+          sym (has-among v (i - a) (h.0 - a) (omega arith) (ap on back ∙ both.0) (ap key back ∙ sym (eqb-true v (key h.0) both.1)))
+  all-asked v i false some none = sym (never (i - a) (λ m l. none refl (a + m) (omega arith) (omega arith)))
+    where
+      never : (n : ℕ) → ((m : ℕ) → m < n → on (a + m) && eqb v (key (a + m)) ≡ false) → has_key on key a v n ≡ false
+      never zero h = refl
+      never (suc n) h = rw (h n (omega arith), never n (λ m l. h m (omega arith)))

@@ -19,9 +19,10 @@ earlier_of sheet a (suc n) = only_if (is Kind.Annotation (view_at sheet (a + n))
 abbrev pub earlier : List ℕ → ℕ → ℕ → List ℕ
 earlier sheet a i = earlier_of sheet a (i - a)
 
--- record i is an annotation other than `doc`, and one from record a on has its name
-unfoldable pub repeats_at : List ℕ → List ℕ → ℕ → ℕ → Bool
-repeats_at table sheet a i =
-    is Kind.Annotation (view_at sheet i)
-    && not (eqb ((context_by table sheet).word i) doc)
-    && any_of ((context_by table sheet).same i) (earlier sheet a i)
+-- record i is an annotation other than `doc`
+unfoldable pub is_compared_at : List ℕ → List ℕ → ℕ → Bool
+is_compared_at table sheet i = is Kind.Annotation (view_at sheet i) && not (eqb ((context_by table sheet).word i) doc)
+
+-- and one from record a on has its name
+abbrev pub repeats_at : List ℕ → List ℕ → ℕ → ℕ → Bool
+repeats_at table sheet a i = is_compared_at table sheet i && any_of ((context_by table sheet).same i) (earlier sheet a i)

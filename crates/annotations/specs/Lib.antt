@@ -1,5 +1,8 @@
 pub mod AnnotationAt
 pub mod Slots
+pub mod Met
+pub mod MetSlots
+pub mod MetRow
 pub mod Each
 pub mod Earlier
 pub mod FirstWith

@@ -5,11 +5,11 @@ ghost use Rattle.rules.specs.Words.{any_of};
 ghost use Rattle.rules.specs.Annotations.{annotations_of, duplicate_annotations};
 ghost use Rattle.names.specs.View.{view_of, entry_of, id_part, context_by};
 ghost use Rattle.diagnostic.specs.Push.{push_found};
-ghost use Rattle.annotations.specs.Slots.{Slotted};
-ghost use Rattle.annotations.specs.Earlier.{is_annotation, earlier, repeats_at};
+ghost use Rattle.annotations.specs.Earlier.{earlier, is_compared_at, repeats_at};
 
-use crate::met::meet;
+use crate::met::MetNames;
 use crate::words;
+use names::ValidationContext;
 use rules::{Counts, Violation};
 use sheet::kinds;
 
@@ -36,14 +36,19 @@ pub fn is_repeated(sheet: &[u8], table: &[u16; 5122], a: usize, i: usize) -> boo
     false
 }
 
+// Whether record `i` is an annotation other than `doc`.
+#[tactic(auto, using(crate::proofs::Repeats::compared_by))]
+fn is_compared(sheet: &[u8], table: &[u16; 5122], i: usize) -> bool
+    ensures { result ≡ is_compared_at table.now sheet.now i }
+{
+    (sheet::kind(sheet, i) == kinds::ANNOTATION) & (names::code(table, i) != words::DOC)
+}
+
 // Whether record `i` is an annotation other than `doc`, and one from record `a` on has its name.
 pub fn is_duplicate(sheet: &[u8], table: &[u16; 5122], a: usize, i: usize) -> bool
     ensures { result ≡ repeats_at table.now sheet.now a i }
 {
-    if sheet::kind(sheet, i) != kinds::ANNOTATION {
-        return false;
-    }
-    if names::code(table, i) == words::DOC {
+    if !is_compared(sheet, table, i) {
         return false;
     }
     is_repeated(sheet, table, a, i)
@@ -73,26 +78,16 @@ fn check_few(
     counts
 }
 
-// Whether record `i` is an annotation other than `doc`, and one from record `a` on has its name, by the slots, in which it is then.
-fn is_duplicate_in_row(
-    sheet: &[u8],
-    table: &[u16; 5122],
-    slots: &mut [u16; 1024],
-    a: usize,
-    i: usize,
-) -> bool
-    requires { Slotted (is_annotation sheet.now) (entry_of id_part table.now) a slots.old i × (a ≤ i) × (i < 1024) }
-    ensures { (result ≡ repeats_at table.now sheet.now a i) × Slotted (is_annotation sheet.now) (entry_of id_part table.now) a slots.new (i + 1) }
+// Whether record `i` is an annotation other than `doc`, and one of the annotations of the names has its name.
+#[tactic(auto, using(crate::proofs::Repeats::met_again))]
+fn is_duplicate_in_row(sheet: &[u8], table: &[u16; 5122], met: &mut MetNames, i: usize) -> bool
+    requires { (met.old.sheet ≡ sheet.now) × (met.old.table ≡ table.now) × (met.old.kind ≡ 20) }
+    ensures { (result ≡ repeats_at table.now sheet.now met.old.start i) × (met.new ≡ met.old) }
 {
-    if sheet::kind(sheet, i) != kinds::ANNOTATION {
+    if !is_compared(sheet, table, i) {
         return false;
     }
-    let met = meet(sheet, table, slots, a, i);
-    let code = names::code(table, i);
-    if code == words::DOC {
-        return false;
-    }
-    met
+    met.is_met(i)
 }
 
 // Adds the same violations where they are many: each is in its name's slot.
@@ -104,15 +99,14 @@ fn check_row(
     a: usize,
     e: usize,
 ) -> Counts
-    requires { e ≤ 1024 }
     ensures { ◌≡◌ {A = List ℕ × Counts} (list.new, result) (push_found (duplicate_annotations (context_by table.now sheet.now) [] (annotations_of (view_of sheet.now a e))) (list.old, counts)) }
 {
-    let mut slots: [u16; 1024] = [0; 1024];
+    let mut met = MetNames::new(ValidationContext { sheet, table }, kinds::ANNOTATION, a);
     let mut counts = counts;
     let mut i = a;
     while i < e {
         // rule 22
-        let duplicate = is_duplicate_in_row(sheet, table, &mut slots, a, i);
+        let duplicate = is_duplicate_in_row(sheet, table, &mut met, i);
         let violation = Violation::error(sheet::span(sheet, i), Violation::DuplicateAnnotation);
         counts = diagnostic::push_if(list, counts, duplicate, violation);
         i += 1;

@@ -1,78 +1,144 @@
-// The names that the annotations of a field have, in slots: for a long row of them.
-ghost use Rattle.std.specs.Prelude.{◌≡◌, ◌+◌, ◌-◌, ◌%◌, ◌≤◌, ◌<◌, true};
-ghost use Rattle.rules.specs.Words.{any_of};
-ghost use Rattle.names.specs.View.{entry_of, id_part, context_by};
-ghost use Rattle.annotations.specs.Slots.{has_key, Slotted};
-ghost use Rattle.annotations.specs.Earlier.{is_annotation, earlier};
+// The names that the records of a list have, in slots: for a long list.
+ghost use Rattle.std.specs.Prelude.{◌≡◌, ◌%◌, ◌≤◌, ◌<◌, ℕ, true, false};
+ghost use Rattle.names.specs.Known.{table_of};
+ghost use Rattle.annotations.specs.Met.{is_met};
+ghost use Rattle.annotations.specs.MetSlots.{has_name, names_at, HasNames};
 
-use sheet::kinds;
+use names::ValidationContext;
+use std::marker::Model;
+
+// The most records of a sheet.
+const MOST: usize = 1024;
 
 // The slot of a name. The names of a sheet have slots of their own.
 fn slot(id: u16) -> usize
     ensures { (result ≡ id % 1024) × (result < 1024) }
 {
-    (id % 1024) as usize
+    usize::from(id % 1024)
 }
 
-// The place, as a number of 64 bits.
-fn wide(place: u16) -> usize
-    ensures { result ≡ place }
+// Whether record `j` is of that kind and has that name.
+#[tactic(auto, unfolding(names::specs::View::view_at, crate::specs::MetSlots::names_at))]
+fn has_name_at(context: ValidationContext, kind: u8, j: usize, id: u16) -> bool
+    ensures { result ≡ names_at context.entry kind id j }
 {
-    place as usize
+    (sheet::kind(context.sheet, j) == kind) & (id == context.id(j))
 }
 
-// The place, as a number of 16 bits.
-fn short(place: usize) -> u16
-    requires { place ≤ 1024 }
-    ensures { result ≡ place }
+// Whether a record of that kind from record `start` up to record `i` has that name, by all of them.
+fn is_among(context: ValidationContext, kind: u8, start: usize, i: usize, id: u16) -> bool
+    ensures found { result ≡ true → (j : ℕ) × (start ≤ j) × (j < i) × (names_at context.entry kind id j ≡ true) }
+    ensures none { result ≡ false → (j : ℕ) → start ≤ j → j < i → names_at context.entry kind id j ≡ false }
 {
-    place as u16
+    (start..i).any(|j| has_name_at(context, kind, j, id))
 }
 
-// Whether an annotation from record `a` up to record `i` has that name, by all of them.
-fn is_among(sheet: &[u8], table: &[u16; 5122], a: usize, i: usize, id: u16) -> bool
-    requires { a ≤ i }
-    ensures { result ≡ has_key (is_annotation sheet.now) (entry_of id_part table.now) a id (i - a) }
-{
-    let mut found = false;
-    let mut j = a;
-    while j < i {
-        found = ((sheet::kind(sheet, j) == kinds::ANNOTATION) & (id == names::id(table, j)))
-            | found;
-        j += 1;
-    }
-    found
-}
-
-// Whether an annotation from record `a` up to record `i` has that name, by its slot. All are asked where another name is the last in the slot.
-fn is_met(
-    sheet: &[u8],
-    table: &[u16; 5122],
-    slots: &[u16; 1024],
-    a: usize,
+// Whether such a record has that name, by its slot. All are asked where another name is the last in the slot.
+fn has_name(
+    context: ValidationContext,
+    kind: u8,
+    slots: &[u16; MOST],
+    start: usize,
     i: usize,
     id: u16,
 ) -> bool
-    requires { Slotted (is_annotation sheet.now) (entry_of id_part table.now) a slots.now i × (a ≤ i) }
-    ensures { result ≡ has_key (is_annotation sheet.now) (entry_of id_part table.now) a id (i - a) }
+    requires { HasNames context kind start slots.now i }
+    ensures { result ≡ has_name context.entry kind start id i }
 {
-    let behind = wide(slots[slot(id)]);
-    if behind <= a {
+    let behind = usize::from(slots[slot(id)]);
+    if behind <= start {
         return false;
     }
-    if names::id(table, behind - 1) == id {
+    if context.id(behind - 1) == id {
         return true;
     }
-    is_among(sheet, table, a, i, id)
+    is_among(context, kind, start, i, id)
 }
 
-// Whether an annotation from record `a` up to record `i` has the name of the annotation at record `i`, which is then in its slot.
-pub fn meet(sheet: &[u8], table: &[u16; 5122], slots: &mut [u16; 1024], a: usize, i: usize) -> bool
-    requires { Slotted (is_annotation sheet.now) (entry_of id_part table.now) a slots.old i × (is_annotation sheet.now i ≡ true) × (a ≤ i) × (i < 1024) }
-    ensures { (result ≡ any_of ((context_by table.now sheet.now).same i) (earlier sheet.now a i)) × Slotted (is_annotation sheet.now) (entry_of id_part table.now) a slots.new (i + 1) }
+// Puts the names of the records of that kind from record `end` up to record `i` into their slots.
+fn enter(
+    context: ValidationContext,
+    kind: u8,
+    slots: &mut [u16; MOST],
+    start: usize,
+    end: usize,
+    i: usize,
+)
+    requires { HasNames context kind start slots.old end × (end ≤ i) × (i ≤ 1024) }
+    ensures { HasNames context.entry kind start slots.new i }
 {
-    let id = names::id(table, i);
-    let met = is_met(sheet, table, slots, a, i, id);
-    slots[slot(id)] = short(i + 1);
-    met
+    for j in end..i {
+        if sheet::kind(context.sheet, j) == kind {
+            slots[slot(context.id(j))] = (j + 1) as u16;
+        }
+    }
+}
+
+// The records of a kind from record `start` on, by their names. The names of those up to record `end` are in the slots.
+#[derive(Drop)]
+pub struct MetNames<'a> {
+    context: ValidationContext<'a>,
+    kind: u8,
+    start: usize,
+    end: usize,
+    slots: [u16; MOST],
+}
+
+impl<'a> Model for MetNames<'a> {
+    ghost use Rattle.annotations.specs.Met.{Row};
+
+    ghost Value = { Row };
+
+    ghost use Rattle.annotations.specs.MetRow.{row_of, AreSlotted};
+
+    ghost view = { row_of };
+
+    ghost invariant = { AreSlotted };
+}
+
+impl<'a> MetNames<'a> {
+    // The records of that kind from record `start` on.
+    pub fn new(context: ValidationContext<'a>, kind: u8, start: usize) -> MetNames<'a>
+        ensures { result ≡ record { sheet = context.entry.sheet.now; table = table_of context.entry; kind = kind; start = start } }
+    {
+        MetNames {
+            context,
+            kind,
+            start,
+            end: start,
+            slots: [0; MOST],
+        }
+    }
+
+    // Those from record `start` on in their place.
+    pub fn restart(&mut self, start: usize)
+        ensures { self.new ≡ record self.old { start = start } }
+    {
+        if start < self.end {
+            self.slots = [0; MOST];
+        }
+        self.start = start;
+        self.end = start;
+    }
+
+    // Whether one of them before record `i` has the name of record `i`.
+    pub fn is_met(&mut self, i: usize) -> bool
+        ensures { (self.new ≡ self.old) × (result ≡ is_met self.old i) }
+    {
+        let id = self.context.id(i);
+        // the slots are not for records that come again, nor for those past the last of a sheet
+        if (i < self.end) | (MOST < i) {
+            return is_among(self.context, self.kind, self.start, i, id);
+        }
+        enter(
+            self.context,
+            self.kind,
+            &mut self.slots,
+            self.start,
+            self.end,
+            i,
+        );
+        self.end = i;
+        has_name(self.context, self.kind, &self.slots, self.start, i, id)
+    }
 }

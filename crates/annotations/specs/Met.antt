@@ -1,0 +1,21 @@
+-- The names that the records of a list have.
+use Rattle.std.specs.Prelude.{ℕ, ◌-◌, Bool, List}
+use Rattle.rules.specs.Record.{is}
+use Rattle.names.specs.View.{view_at, entry_of, id_part}
+use Rattle.annotations.specs.Slots.{has_key}
+
+-- record i is of the kind
+abbrev pub of_kind : ℕ → List ℕ → ℕ → Bool
+of_kind kind sheet i = is kind (view_at sheet i)
+
+-- the records that a name is looked for among: those of a kind from record `start` on, whose names the table tells apart
+pub record Row : Type 0 where
+  pub sheet : List ℕ
+  pub table : List ℕ
+  pub kind : ℕ
+  pub start : ℕ
+
+-- one of them before record i has the name of record i
+abbrev pub is_met : Row → ℕ → Bool
+is_met row i =
+    has_key (of_kind row.kind row.sheet) (entry_of id_part row.table) row.start (entry_of id_part row.table i) (i - row.start)
