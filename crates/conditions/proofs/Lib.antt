@@ -1,11 +1,8 @@
-pub mod Told
-pub mod Constants
 pub mod OperandRules
-pub mod OperatorRule
+pub mod LengthOperands
 pub mod FirstRecords
 pub mod ConditionOperands
 pub mod FieldLiterals
-pub mod EachRecord
-pub mod NodeParts
+pub mod Remaining
 pub mod NodeKinds
 pub mod WholeCondition

@@ -1,18 +1,13 @@
 -- At a condition of one kind, the parts of the definition that are for other kinds are empty; at any other record all of them are.
-use Prim.Native.Nat.{ℕ, ◌≤◌}
-use mathlib.Core.Path.{◌≡◌, refl, sym, ◌∙◌}
-use mathlib.Core.Bool.{Bool, true, false, ◌&&◌}
-use mathlib.Core.List.{List, append-nil}
-use native.Mathlib.Omega.{arith}
-use borrow.Author.Tests.{ne_eqb, leb-true}
-use lib.Dec.{leb}
+use Rattle.std.proofs.Common.{◌≡◌, ℕ, ◌≤◌, Bool, true, false, ◌&&◌, List, refl, sym, ◌∙◌, append-nil, arith, leb, leb-true, le-leb, ne_eqb}
 use Rattle.rules.specs.declared.span.Span.{Span}
 use Rattle.rules.specs.Words.{within}
 use Rattle.rules.specs.Record.{Rec, record_bytes, kind_in}
 use Rattle.rules.specs.Context.{ValidationContext}
 use Rattle.rules.specs.Conditions.{Literals}
-use Rattle.diagnostic.specs.Push.{State, push_found}
-use Rattle.diagnostic.proofs.FoundPushes.{found_none}
+use Rattle.diagnostic.specs.declared.violations.Violations.{Violations}
+use Rattle.diagnostic.specs.Violations.{Adds}
+use Rattle.diagnostic.proofs.Added.{adds_none}
 use Rattle.names.specs.View.{view_at}
 use Rattle.conditions.specs.Parts.{operator_violations, comparison_violations, range_violations, length_violations, node_violations}
 
@@ -25,57 +20,35 @@ outside low high n h = by_tests (leb low n) (leb n high) refl refl
     by_tests true false p q = refl
     by_tests false b p q = refl
 
-module _ (ctx : ValidationContext ℕ Span) (c : Rec ℕ Span) (rs : List (Rec ℕ Span)) (takes : Literals) (collection : Bool) where
-  node-cmp : c.kind ≡ 53 → node_violations ctx takes collection c rs ≡ comparison_violations ctx takes c rs
-  unfolding node_violations comparison_violations operator_violations
-  node-cmp k = rw k (simp append-nil)
-
-  node-range : c.kind ≡ 54 → node_violations ctx takes collection c rs ≡ range_violations ctx takes c rs
-  unfolding node_violations range_violations
-  node-range k = rw k (simp append-nil)
-
-  node-len-cmp : c.kind ≡ 55 → node_violations ctx takes collection c rs ≡ length_violations ctx collection c rs
-  unfolding node_violations length_violations
-  node-len-cmp k = rw k
-
-  node-len-range : c.kind ≡ 56 → node_violations ctx takes collection c rs ≡ length_violations ctx collection c rs
-  unfolding node_violations length_violations
-  node-len-range k = rw k
-
 module _
-    (ctx : ValidationContext ℕ Span) (sheet : List ℕ) (i : ℕ) (rs : List (Rec ℕ Span)) (s t : State) (takes : Literals) (collection : Bool)
+    (ctx : ValidationContext ℕ Span) (sheet : List ℕ) (i : ℕ) (rs : List (Rec ℕ Span)) (takes : Literals) (collection : Bool) (old : Violations)
     (kind : ℕ) (hk : kind ≡ kind_in (record_bytes sheet i))
   where
-    pub at-cmp :
-        kind ≡ 53 → t ≡ push_found (comparison_violations ctx takes (view_at sheet i) rs) s →
-        t ≡ push_found (node_violations ctx takes collection (view_at sheet i) rs) s
-    unfolding view_at
-    at-cmp e h = rw (node-cmp ctx (view_at sheet i) rs takes collection (sym hk ∙ e)) h
+    pub node_cmp :
+        (new : Violations) → kind ≡ 53 → Adds old new (comparison_violations ctx takes (view_at sheet i) rs) →
+        Adds old new (node_violations ctx takes collection (view_at sheet i) rs)
+    unfolding view_at node_violations comparison_violations operator_violations
+    node_cmp new e h = rw (sym hk ∙ e) (simp append-nil (rw (sym hk ∙ e) at h))
 
-    pub at-range :
-        kind ≡ 54 → t ≡ push_found (range_violations ctx takes (view_at sheet i) rs) s →
-        t ≡ push_found (node_violations ctx takes collection (view_at sheet i) rs) s
-    unfolding view_at
-    at-range e h = rw (node-range ctx (view_at sheet i) rs takes collection (sym hk ∙ e)) h
+    pub node_range :
+        (new : Violations) → kind ≡ 54 → Adds old new (range_violations ctx takes (view_at sheet i) rs) →
+        Adds old new (node_violations ctx takes collection (view_at sheet i) rs)
+    unfolding view_at node_violations range_violations
+    node_range new e h = rw (sym hk ∙ e) (simp append-nil (rw (sym hk ∙ e) at h))
 
-    pub at-len-cmp :
-        kind ≡ 55 → t ≡ push_found (length_violations ctx collection (view_at sheet i) rs) s →
-        t ≡ push_found (node_violations ctx takes collection (view_at sheet i) rs) s
-    unfolding view_at
-    at-len-cmp e h = rw (node-len-cmp ctx (view_at sheet i) rs takes collection (sym hk ∙ e)) h
-
-    pub at-len-range :
-        kind ≡ 56 → t ≡ push_found (length_violations ctx collection (view_at sheet i) rs) s →
-        t ≡ push_found (node_violations ctx takes collection (view_at sheet i) rs) s
-    unfolding view_at
-    at-len-range e h = rw (node-len-range ctx (view_at sheet i) rs takes collection (sym hk ∙ e)) h
+    pub node_len :
+        (new : Violations) → 55 ≤ kind → kind ≤ 56 → Adds old new (length_violations ctx collection (view_at sheet i) rs) →
+        Adds old new (node_violations ctx takes collection (view_at sheet i) rs)
+    unfolding view_at node_violations length_violations
+    node_len new a b h =
+        rw (← hk)
+        (simp (outside 53 54 kind (λ p q. omega arith), le-leb 55 kind a, le-leb kind 56 b, ne_eqb kind 53 (λ e. omega arith), ne_eqb kind 54 (λ e. omega arith))
+        (rw hk h))
 
     -- every other record
-    pub at_other :
-        (kind ≡ 53 → ⊥) → (kind ≡ 54 → ⊥) → (kind ≡ 55 → ⊥) → (kind ≡ 56 → ⊥) →
-        s ≡ push_found (node_violations ctx takes collection (view_at sheet i) rs) s
+    pub node_other : (53 ≤ kind → kind ≤ 56 → ⊥) → Adds old old (node_violations ctx takes collection (view_at sheet i) rs)
     unfolding node_violations view_at
-    at_other c r lc lr =
+    node_other n =
         rw (← hk)
-        (simp (outside 53 54 kind (λ p q. omega arith), outside 55 56 kind (λ p q. omega arith), ne_eqb kind 53 c, ne_eqb kind 54 r)
-        (sym (found_none s)))
+        (simp (outside 53 54 kind (λ p q. n p (omega arith)), outside 55 56 kind (λ p q. n (omega arith) q), ne_eqb kind 53 (λ e. n (omega arith) (omega arith)), ne_eqb kind 54 (λ e. n (omega arith) (omega arith)))
+        (adds_none old))

@@ -1,9 +1,5 @@
 -- A condition's records are taken one after the other, each with those after it.
-use Prim.Native.Nat.{ℕ, ◌+◌, ◌≤◌, ◌<◌}
-use mathlib.Core.Path.{◌≡◌, refl, sym, ap, ◌∙◌}
-use mathlib.Core.Bool.{Bool, true}
-use mathlib.Core.List.{List, [], ◌∷◌, ◌++◌}
-use borrow.Author.Tests.{eqb-true}
+use Rattle.std.proofs.Common.{◌≡◌, ℕ, ◌+◌, ◌≤◌, ◌<◌, Bool, true, List, [], ◌∷◌, ◌++◌, refl, sym, ap, ◌∙◌, eqb-true}
 use Rattle.rules.specs.declared.span.Span.{Span}
 use Rattle.rules.specs.Words.{rest}
 use Rattle.rules.specs.Kind
@@ -11,11 +7,13 @@ use Rattle.rules.specs.Record.{Rec, is}
 use Rattle.rules.specs.Context.{ValidationContext}
 use Rattle.rules.specs.Types.{is_collection_type}
 use Rattle.rules.specs.Conditions.{Literals, literals_of, own_condition_violations, condition_violations}
-use Rattle.diagnostic.specs.Push.{State, push_found}
-use Rattle.diagnostic.proofs.FoundPushes.{found-append, found_none}
+use Rattle.rules.specs.Rule.{Found}
+use Rattle.diagnostic.specs.declared.violations.Violations.{Violations}
+use Rattle.diagnostic.specs.Violations.{Adds}
 use Rattle.names.specs.View.{view_at, view_of}
 use Rattle.types.proofs.Views.{view-cons, view-none}
 use Rattle.conditions.specs.Parts.{node_violations}
+use Rattle.conditions.proofs.Remaining.{Remains, remains_rest, remains_none}
 
 module _ (ctx : ValidationContext ℕ Span) (ty : List (Rec ℕ Span)) where
   -- what is found at one record depends on the type by its literals and by whether it is a collection
@@ -25,20 +23,20 @@ module _ (ctx : ValidationContext ℕ Span) (ty : List (Rec ℕ Span)) where
   unfolding node_violations own_condition_violations
   own-found takes collection c rs ht hc = rw (ht, hc)
 
-  pub condition-next :
-      (sheet : List ℕ) (i e : ℕ) (takes : Literals) (collection : Bool) (s t u : State) → i < e → takes ≡ literals_of ty →
-      collection ≡ is_collection_type ty → t ≡ push_found (node_violations ctx takes collection (view_at sheet i) (view_of sheet (i + 1) e)) s →
-      push_found (condition_violations ctx ty (view_of sheet i e)) s ≡ u → push_found (condition_violations ctx ty (view_of sheet (i + 1) e)) t ≡ u
+  pub condition_next :
+      (sheet : List ℕ) (i e : ℕ) (takes : Literals) (collection : Bool) (old mid new : Violations) (all : List (Found Span)) → i < e →
+      takes ≡ literals_of ty → collection ≡ is_collection_type ty → Remains old mid all (condition_violations ctx ty (view_of sheet i e)) →
+      Adds mid new (node_violations ctx takes collection (view_at sheet i) (view_of sheet (i + 1) e)) →
+      Remains old new all (condition_violations ctx ty (view_of sheet (i + 1) e))
   unfolding condition_violations
-  condition-next sheet i e takes collection s t u h ht hc here all =
-      rw (here, own-found takes collection (view_at sheet i) (view_of sheet (i + 1) e) ht hc)
-      (sym (found-append (own_condition_violations ctx ty (view_at sheet i) (view_of sheet (i + 1) e)) (condition_violations ctx ty (view_of sheet (i + 1) e)) s))
-      ∙ rw (view-cons sheet i e h) at all
+  condition_next sheet i e takes collection old mid new all h ht hc left here =
+      remains_rest old all mid new _ _ (rw (view-cons sheet i e h) at left) (rw (own-found takes collection (view_at sheet i) (view_of sheet (i + 1) e) ht hc) at here)
 
-  pub condition-end :
-      (sheet : List ℕ) (i e : ℕ) (s u : State) → e ≤ i → push_found (condition_violations ctx ty (view_of sheet i e)) s ≡ u → s ≡ u
+  pub condition_end :
+      (sheet : List ℕ) (i e : ℕ) (old now : Violations) (all : List (Found Span)) → e ≤ i →
+      Remains old now all (condition_violations ctx ty (view_of sheet i e)) → Adds old now all
   unfolding condition_violations
-  condition-end sheet i e s u h all = sym (found_none s) ∙ rw (view-none sheet i e h) at all
+  condition_end sheet i e old now all h left = remains_none old all now (rw (view-none sheet i e h) at left)
 
 -- an optional before another changes neither the literals nor whether there is a length, and so nothing that is found
 module _ (ctx : ValidationContext ℕ Span) (t u : Rec ℕ Span) (rs : List (Rec ℕ Span)) (ht : is Kind.Optional t ≡ true) (hu : is Kind.Optional u ≡ true) where

@@ -1,34 +1,30 @@
 // A whole condition: rules 23 to 30.
-ghost use Rattle.std.specs.Prelude.{◌≡◌, List, ℕ};
-ghost use Rattle.rules.specs.declared.answer.Counts.{Counts};
 ghost use Rattle.rules.specs.Conditions.{condition_violations};
-ghost use Rattle.diagnostic.specs.Push.{push_found};
-ghost use Rattle.names.specs.View.{view_of, context_by};
+ghost use Rattle.diagnostic.specs.Violations.{Adds};
+ghost use Rattle.names.specs.Known.{context_in, records_in};
 
 use crate::literals::literals_of;
 use crate::node::validate_node;
-use rules::Counts;
+use diagnostic::Violations;
+use names::ValidationContext;
+use rules::RecordRange;
 
-// Adds what rules 23 to 30 find at the condition at records `a` up to `e`, on a field whose type is at records `ta` up to `te`.
+// Adds what rules 23 to 30 find at the condition on a field of that type.
 pub fn validate_where_expr(
-    sheet: &[u8],
-    table: &[u16; 5122],
-    list: &mut [u8],
-    counts: Counts,
-    a: usize,
-    e: usize,
-    ta: usize,
-    te: usize,
-) -> Counts
-    ensures { ◌≡◌ {A = List ℕ × Counts} (list.new, result) (push_found (condition_violations (context_by table.now sheet.now) (view_of sheet.now ta te) (view_of sheet.now a e)) (list.old, counts)) }
+    context: ValidationContext,
+    violations: &mut Violations,
+    condition: RecordRange,
+    ty: RecordRange,
+)
+    ensures { Adds violations.old violations.new (condition_violations (context_in context.entry) (records_in context.entry ty) (records_in context.entry condition)) }
 {
-    let literals = literals_of(sheet, ta, te);
-    let collection = types::is_collection_type(sheet, ta, te);
-    let mut counts = counts;
-    let mut i = a;
-    while i < e {
-        counts = validate_node(sheet, table, list, counts, i, e, literals, collection);
-        i += 1;
+    let literals = literals_of(context.sheet, ty);
+    let collection = types::is_collection_type(context.sheet, ty.start, ty.end);
+    for start in condition.start..condition.end {
+        let node = RecordRange {
+            start,
+            end: condition.end,
+        };
+        validate_node(context, violations, node, literals, collection);
     }
-    counts
 }

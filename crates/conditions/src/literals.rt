@@ -2,8 +2,9 @@
 ghost use Rattle.std.specs.Prelude.{◌≡◌};
 ghost use Rattle.rules.specs.Conditions.{length_literals, literals_of};
 ghost use Rattle.names.specs.View.{view_of};
-ghost use Rattle.conditions.specs.Taken.{taken};
+ghost use Rattle.conditions.specs.Taken.{taken, int_alone};
 
+use rules::RecordRange;
 use sheet::kinds;
 
 // The subs of the types that take a literal.
@@ -24,21 +25,28 @@ pub struct Literals {
     pub boolean: bool,
 }
 
-// The literals of the type at records `a` up to `e`: Int behind its optionals, the others by its first record.
-pub fn literals_of(sheet: &[u8], a: usize, e: usize) -> Literals
-    ensures { taken result ≡ literals_of (view_of sheet.now a e) }
+// The literals of a type that takes Int or not, and no other.
+fn int_alone(int: bool) -> Literals
+    ensures { taken result ≡ int_alone int }
 {
-    let int = types::is_numeric_type(sheet, a, e);
-    if e <= a {
-        return Literals {
-            int,
-            float: false,
-            string: false,
-            boolean: false,
-        };
+    Literals {
+        int,
+        float: false,
+        string: false,
+        boolean: false,
     }
-    let kind = sheet::kind(sheet, a);
-    let sub = sheet::sub(sheet, a);
+}
+
+// The literals of the type: Int behind its optionals, the others by its first record.
+pub fn literals_of(sheet: &[u8], ty: RecordRange) -> Literals
+    ensures { taken result ≡ literals_of (view_of sheet.now ty.start ty.end) }
+{
+    let int = types::is_numeric_type(sheet, ty.start, ty.end);
+    let Some(first) = ty.first() else {
+        return int_alone(int);
+    };
+    let kind = sheet::kind(sheet, first);
+    let sub = sheet::sub(sheet, first);
     Literals {
         int,
         float: (kind == kinds::PRIMITIVE) & ((F32 <= sub) & (sub <= F64)),
@@ -51,10 +59,5 @@ pub fn literals_of(sheet: &[u8], a: usize, e: usize) -> Literals
 pub fn length_literals() -> Literals
     ensures { taken result ≡ length_literals }
 {
-    Literals {
-        int: true,
-        float: false,
-        string: false,
-        boolean: false,
-    }
+    int_alone(true)
 }

@@ -1,14 +1,16 @@
 // The operands of a condition: rules 23 to 27.
-ghost use Rattle.std.specs.Prelude.{◌≡◌, List, ℕ};
-ghost use Rattle.rules.specs.declared.answer.Counts.{Counts};
+ghost use Rattle.std.specs.Prelude.{◌≡◌};
 ghost use Rattle.rules.specs.Context.{is_known_const};
 ghost use Rattle.rules.specs.Conditions.{operand_violations};
-ghost use Rattle.diagnostic.specs.Push.{push_found};
-ghost use Rattle.names.specs.View.{view_at, context_by};
+ghost use Rattle.diagnostic.specs.Violations.{Adds};
+ghost use Rattle.names.specs.Known.{context_in};
+ghost use Rattle.names.specs.View.{view_at};
 ghost use Rattle.conditions.specs.Taken.{taken, mismatches};
 
 use crate::literals::Literals;
-use rules::{Counts, Violation};
+use diagnostic::Violations;
+use names::ValidationContext;
+use rules::Violation;
 use sheet::kinds;
 
 // The subs of an operand.
@@ -24,61 +26,56 @@ const BOOL: u8 = 3;
 const CONST: u8 = 7;
 
 // Whether the name of record `i` is a declared constant's, or imported.
-fn is_known_const(sheet: &[u8], table: &[u16; 5122], i: usize) -> bool
-    ensures { result ≡ is_known_const (context_by table.now sheet.now) i }
+#[tactic(auto, unfolding(names::specs::View::context_by))]
+fn is_known_const(context: ValidationContext, i: usize) -> bool
+    ensures { result ≡ is_known_const (context_in context.entry) i }
 {
-    if names::is_imported(table, i) {
-        return true;
-    }
-    let place = names::declaration(table, i);
-    if place == 0 {
-        return false;
-    }
-    let declaration = (place - 1) as usize;
-    sheet::sub(sheet, declaration) == CONST
+    context.is_imported(i) || types::is_declared_as(context.sheet, context.table, CONST, i)
 }
 
 // Whether an operand of that sub is a literal that a type with those literals does not take.
+#[tactic(auto, unfolding(crate::specs::Taken::mismatches))]
 fn is_mismatch(sub: u8, literals: Literals) -> bool
     ensures { result ≡ mismatches (taken literals) sub }
 {
-    ((sub == INT) & !literals.int)
-        | ((sub == FLOAT) & !literals.float)
-        | ((sub == STRING) & !literals.string)
-        | ((sub == BOOL) & !literals.boolean)
+    match sub {
+        INT => !literals.int,
+        FLOAT => !literals.float,
+        STRING => !literals.string,
+        BOOL => !literals.boolean,
+        _ => false,
+    }
 }
 
 // Adds what rules 23 to 27 find at record `i`, if it is an operand, on a type that takes those literals.
 pub fn validate_where_operand(
-    sheet: &[u8],
-    table: &[u16; 5122],
-    list: &mut [u8],
-    counts: Counts,
+    context: ValidationContext,
+    violations: &mut Violations,
     i: usize,
     literals: Literals,
-) -> Counts
-    ensures { ◌≡◌ {A = List ℕ × Counts} (list.new, result) (push_found (operand_violations (context_by table.now sheet.now) (taken literals) (view_at sheet.now i)) (list.old, counts)) }
+)
+    ensures { Adds violations.old violations.new (operand_violations (context_in context.entry) (taken literals) (view_at context.entry.sheet.now i)) }
 {
-    if sheet::kind(sheet, i) != kinds::OPERAND {
-        return counts;
+    if sheet::kind(context.sheet, i) != kinds::OPERAND {
+        return;
     }
-    let span = sheet::span(sheet, i);
-    let sub = sheet::sub(sheet, i);
+    let sub = sheet::sub(context.sheet, i);
     if sub == kinds::CONST_REF {
         // rule 27
-        let unknown = !is_known_const(sheet, table, i);
-        return diagnostic::push_if(
-            list,
-            counts,
-            unknown,
-            Violation::error(span, Violation::WhereClauseConstRefNotFound),
+        let known = is_known_const(context, i);
+        violations.error_if(
+            !known,
+            context.sheet,
+            i,
+            Violation::WhereClauseConstRefNotFound,
         );
+        return;
     }
     // rules 23 to 26
-    diagnostic::push_if(
-        list,
-        counts,
+    violations.error_if(
         is_mismatch(sub, literals),
-        Violation::error(span, Violation::WhereClauseTypeMismatch),
-    )
+        context.sheet,
+        i,
+        Violation::WhereClauseTypeMismatch,
+    );
 }

@@ -1,50 +1,44 @@
-// The operands that stand directly after a condition.
-ghost use Rattle.std.specs.Prelude.{◌≡◌, ℕ, ◌+◌, ◌<◌};
-ghost use mathlib.Core.List.{List, flat_map};
-ghost use Rattle.rules.specs.declared.answer.Counts.{Counts};
+// The operands that stand directly after a condition, which is the first of some records.
+ghost use Rattle.std.specs.Prelude.{◌≡◌, ◌+◌};
+ghost use mathlib.Core.List.{flat_map};
 ghost use Rattle.rules.specs.Conditions.{operands_of, operand_violations};
-ghost use Rattle.diagnostic.specs.Push.{push_found};
-ghost use Rattle.names.specs.View.{view_at, view_of, context_by};
+ghost use Rattle.diagnostic.specs.Violations.{Adds};
+ghost use Rattle.names.specs.Known.{context_in};
+ghost use Rattle.names.specs.View.{view_at, view_of};
 ghost use Rattle.conditions.specs.Taken.{taken};
 
 use crate::literals::Literals;
 use crate::operand::validate_where_operand;
-use rules::Counts;
+use diagnostic::Violations;
+use names::ValidationContext;
+use rules::RecordRange;
 
-// The end of the operands of the condition that is record `i`, of which none stands past `e`.
-fn operands_end(sheet: &[u8], i: usize, e: usize) -> usize
-    requires { i < e }
-    ensures { view_of sheet.now (i + 1) result ≡ operands_of (view_at sheet.now i) (view_of sheet.now (i + 1) e) }
+// The operands of the condition that the records start with; none of no records.
+fn operands_of(sheet: &[u8], node: RecordRange) -> RecordRange
+    ensures { view_of sheet.now result.start result.end ≡ operands_of (view_at sheet.now node.start) (view_of sheet.now (node.start + 1) node.end) }
 {
-    let start = i + 1;
-    let parts = sheet::part_count(sheet::kind(sheet, i)) as usize;
-    if e - start < parts {
-        return e;
+    if node.is_empty() {
+        return node;
     }
-    start + parts
+    let start = node.start + 1;
+    let parts = sheet::part_count(sheet::kind(sheet, node.start)) as usize;
+    RecordRange {
+        start,
+        end: start + usize::min(parts, node.end - start),
+    }
 }
 
-// Adds what rules 23 to 27 find at the operands of record `i`, on a type that takes those literals.
+// Adds what rules 23 to 27 find at the operands of the condition that the records start with, on a type that takes those literals.
 pub fn validate_where_operands(
-    sheet: &[u8],
-    table: &[u16; 5122],
-    list: &mut [u8],
-    counts: Counts,
-    i: usize,
-    e: usize,
+    context: ValidationContext,
+    violations: &mut Violations,
+    node: RecordRange,
     literals: Literals,
-) -> Counts
-    ensures { ◌≡◌ {A = List ℕ × Counts} (list.new, result) (push_found (flat_map (operand_violations (context_by table.now sheet.now) (taken literals)) (operands_of (view_at sheet.now i) (view_of sheet.now (i + 1) e))) (list.old, counts)) }
+)
+    ensures { Adds violations.old violations.new (flat_map (operand_violations (context_in context.entry) (taken literals)) (operands_of (view_at context.entry.sheet.now node.start) (view_of context.entry.sheet.now (node.start + 1) node.end))) }
 {
-    if e <= i {
-        return counts;
+    let operands = operands_of(context.sheet, node);
+    for i in operands.start..operands.end {
+        validate_where_operand(context, violations, i, literals);
     }
-    let end = operands_end(sheet, i, e);
-    let mut counts = counts;
-    let mut j = i + 1;
-    while j < end {
-        counts = validate_where_operand(sheet, table, list, counts, j, literals);
-        j += 1;
-    }
-    counts
 }
