@@ -1,8 +1,6 @@
 -- A chain of newtypes is followed step by step: what is at its end is what is at the end of the chain from the next type on.
-use Prim.Native.Nat.{ℕ, zero, suc, ◌-◌, ◌<◌, ◌≤◌}
-use mathlib.Core.Path.{◌≡◌, refl}
-use mathlib.Core.List.{List}
-use native.Mathlib.Omega.{arith}
+use Rattle.std.proofs.Common.{◌≡◌, ℕ, zero, suc, ◌+◌, ◌-◌, ◌<◌, ◌≤◌, List, arith}
+use Rattle.std.specs.Prelude.{Option, Some, None}
 use Rattle.rules.specs.declared.span.Span.{Span}
 use Rattle.rules.specs.Record.{Rec}
 use Rattle.rules.specs.Context.{ValidationContext, behind, chain_end}
@@ -14,33 +12,25 @@ module _ (ctx : ValidationContext ℕ Span) (sheet : List ℕ) (end : Rec ℕ Sp
   abbrev pub EndsAt : ℕ → ℕ → Type 0
   EndsAt left at = chain_end ctx left (view_at sheet at) ≡ end
 
-  chain-step : (left at place : ℕ) → EndsAt (suc left) at → behind ctx (view_at sheet at) ≡ at_place sheet (suc place) → EndsAt left place
-  unfolding at_place chain_end
-  chain-step left at place ends step = rw (chain_end, step) at ends
-
-  chain-stays : (left at : ℕ) → EndsAt (suc left) at → behind ctx (view_at sheet at) ≡ at_place sheet 0 → view_at sheet at ≡ end
-  unfolding at_place chain_end
-  chain-stays left at ends step = rw (chain_end, step) at ends
+  next-step : (left at next : ℕ) → EndsAt (suc left) at → behind ctx (view_at sheet at) ≡ at_place sheet (Some next) → EndsAt left next
+  unfolding chain_end
+  next-step left at next ends step = rw (chain_end, step) at ends
 
   -- one step more, no step more, and no step left
   pub chain_next :
-      (left at place : ℕ) → EndsAt left at → 0 < left → behind ctx (view_at sheet at) ≡ at_place sheet place → (place ≡ 0 → ⊥) →
-      EndsAt (left - 1) (place - 1)
-  chain_next zero at place ends h step there = absurd (omega arith)
-  chain_next (suc left) at zero ends h step there = absurd (there refl)
-  chain_next (suc left) at (suc place) ends h step there =
-      let l : suc left - 1 ≡ left = omega arith in
-      let p : suc place - 1 ≡ place = omega arith in
-      rw (l, p) (chain-step left at place ends step)
+      (n k at next : ℕ) (found : Option ℕ) → EndsAt (n - k) at → k < n → behind ctx (view_at sheet at) ≡ at_place sheet found → found ≡ Some next →
+      EndsAt (n - (k + 1)) next
+  chain_next n k at next found ends h step there =
+      let left : n - k ≡ suc (n - (k + 1)) = omega arith in
+      next-step (n - (k + 1)) at next (rw left at ends) (rw there at step)
 
-  pub chain-over : (left at place : ℕ) → EndsAt left at → 0 < left → behind ctx (view_at sheet at) ≡ at_place sheet place → place ≡ 0 → view_at sheet at ≡ end
-  chain-over zero at place ends h step absent = absurd (omega arith)
-  chain-over (suc left) at place ends h step absent = chain-stays left at ends (rw absent at step)
-
-  pub chain-out : (left at : ℕ) → EndsAt left at → left ≤ 0 → view_at sheet at ≡ end
+  pub chain_over : (left at : ℕ) (found : Option ℕ) → EndsAt left at → behind ctx (view_at sheet at) ≡ at_place sheet found → found ≡ None → view_at sheet at ≡ end
   unfolding chain_end
-  chain-out zero at ends h = ends
-  chain-out (suc left) at ends h = absurd (omega arith)
+  chain_over zero at found ends step absent = ends
+  chain_over (suc left) at found ends step absent = rw (chain_end, step, absent) at ends
 
-pub chain-start : (ctx : ValidationContext ℕ Span) (sheet : List ℕ) (at n m : ℕ) → n ≡ m → chain_end ctx n (view_at sheet at) ≡ chain_end ctx m (view_at sheet at)
-chain-start ctx sheet at n m e = rw e
+  pub chain_out : (n k at : ℕ) → EndsAt (n - k) at → n ≤ k → view_at sheet at ≡ end
+  unfolding chain_end
+  chain_out n k at ends h =
+      let left : n - k ≡ 0 = omega arith in
+      rw left at ends

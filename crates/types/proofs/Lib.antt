@@ -1,13 +1,11 @@
 pub mod BitNames
 pub mod Chain
 pub mod Declarations
-pub mod Keys
 pub mod Known
+pub mod Left
 pub mod Optionals
 pub mod OwnKinds
-pub mod OwnRules
 pub mod Passed
 pub mod Stack
-pub mod Told
 pub mod Views
 pub mod Walk

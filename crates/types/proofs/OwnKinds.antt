@@ -1,25 +1,24 @@
 -- The rules of one type are those of its kind: the tests of the other kinds fail.
-use Prim.Native.Nat.{ℕ, ◌<◌, ◌≤◌}
-use mathlib.Core.Path.{◌≡◌, refl, sym, ◌∙◌}
-use mathlib.Core.Bool.{Bool, true, false, ◌&&◌, and-false}
-use mathlib.Core.List.{List, [], ◌∷◌, append-nil}
-use native.Mathlib.Omega.{arith}
-use lib.Dec.{leb}
-use borrow.Author.Tests.{ne_eqb, leb-true, lt-leb}
+use Rattle.std.proofs.Common.{◌≡◌, ℕ, ◌<◌, ◌≤◌, Bool, true, false, ◌&&◌, List, [], eqb, leb, refl, sym, ◌∙◌, append-nil, arith, ne_eqb, eqb-true, leb-true, le-leb}
+use Rattle.std.proofs.lemmas.Bool.{lt-leb}
+use mathlib.Core.Bool.{and-false}
 use Rattle.rules.specs.declared.span.Span.{Span}
-use Rattle.rules.specs.Words.{within}
+use Rattle.rules.specs.Words.{within, front}
 use Rattle.rules.specs.Kind
-use Rattle.rules.specs.Record.{Rec, record_bytes, kind_in}
+use Rattle.rules.specs.Record.{Rec, is, record_bytes, kind_in, span_in, value_in}
 use Rattle.rules.specs.Context.{ValidationContext}
-use Rattle.rules.specs.Types.{key_violations, element_violations, own_type_violations}
-use Rattle.diagnostic.specs.Push.{State, push_found}
-use Rattle.names.specs.View.{view_at, view_of}
-use Rattle.types.specs.Own.{element_found, named_found, content_found}
+use Rattle.rules.specs.Types.{key_violations, element_violations, bit_name_violations, own_type_violations}
+use Rattle.rules.specs.Rule.{found_if}
+use Rattle.diagnostic.specs.declared.violations.Violations.{Violations}
+use Rattle.diagnostic.specs.Violations.{Adds}
+use Rattle.diagnostic.proofs.Added.{adds_none}
+use Rattle.names.specs.View.{view_at}
+use Rattle.types.specs.Own.{named_found}
 
 pub both : (x y : Bool) → (x && y) ≡ true → (x ≡ true) × (y ≡ true)
 both true true h = (refl, refl)
-both true false h = absurd (let z : ◌≡◌ {A = ℕ} 0 1 = cc in omega arith)
-both false y h = absurd (let z : ◌≡◌ {A = ℕ} 0 1 = cc in omega arith)
+both true false h = cc
+both false y h = cc
 
 pub within-true : (low high n : ℕ) → within low high n ≡ true → (low ≤ n) × (n ≤ high)
 within-true low high n h =
@@ -32,10 +31,17 @@ below low high n h = rw (lt-leb low n h)
 pub above : (low high n : ℕ) → high < n → within low high n ≡ false
 above low high n h = rw (lt-leb n high h, and-false)
 
-same-element : (ctx : ValidationContext ℕ Span) (rs : List (Rec ℕ Span)) → element_violations ctx rs ≡ element_found rs
-unfolding element_found
-same-element ctx [] = refl
-same-element ctx (r ∷ rs) = refl
+pub inside : (low high n : ℕ) → low ≤ n → n ≤ high → within low high n ≡ true
+inside low high n least most = rw (le-leb low n least, le-leb n high most)
+
+pub outside : (low high n : ℕ) → (low ≤ n → n ≤ high → ⊥) → within low high n ≡ false
+outside low high n h = by (within low high n) refl
+  where
+    by : (b : Bool) → within low high n ≡ b → b ≡ false
+    by true e =
+        let range = within-true low high n e in
+        absurd (h range.0 range.1)
+    by false e = refl
 
 -- the rules that are left for each kind
 module _ (ctx : ValidationContext ℕ Span) (t : Rec ℕ Span) (rs : List (Rec ℕ Span)) where
@@ -43,13 +49,12 @@ module _ (ctx : ValidationContext ℕ Span) (t : Rec ℕ Span) (rs : List (Rec �
   unfolding own_type_violations named_found
   own-named h = rw (own_type_violations, h) (simp append-nil)
 
-  own-keyed : within Kind.Set Kind.Map t.kind ≡ true → own_type_violations ctx t rs ≡ key_violations ctx rs
+  pub own-keyed : Kind.Set ≤ t.kind → t.kind ≤ Kind.Map → own_type_violations ctx t rs ≡ key_violations ctx rs
   unfolding own_type_violations
-  own-keyed h =
-      let range : (Kind.Set ≤ t.kind) × (t.kind ≤ Kind.Map) = within-true Kind.Set Kind.Map t.kind h in
+  own-keyed least most =
       rw (
         own_type_violations,
-        h,
+        inside Kind.Set Kind.Map t.kind least most,
         ne_eqb t.kind Kind.Named (λ e. omega arith),
         ne_eqb t.kind Kind.FixedArray (λ e. omega arith),
         ne_eqb t.kind Kind.BitsInline (λ e. omega arith),
@@ -57,44 +62,78 @@ module _ (ctx : ValidationContext ℕ Span) (t : Rec ℕ Span) (rs : List (Rec �
       )
       (simp append-nil)
 
-  own-geometric : within Kind.Vec2 Kind.Mat4 t.kind ≡ true → own_type_violations ctx t rs ≡ element_found rs
+  pub own-geometric : Kind.Vec2 ≤ t.kind → t.kind ≤ Kind.Mat4 → own_type_violations ctx t rs ≡ element_violations ctx rs
   unfolding own_type_violations
-  own-geometric h =
-      let range : (Kind.Vec2 ≤ t.kind) × (t.kind ≤ Kind.Mat4) = within-true Kind.Vec2 Kind.Mat4 t.kind h in
+  own-geometric least most =
       rw (
         own_type_violations,
-        h,
+        inside Kind.Vec2 Kind.Mat4 t.kind least most,
         ne_eqb t.kind Kind.Named (λ e. omega arith),
         ne_eqb t.kind Kind.FixedArray (λ e. omega arith),
         ne_eqb t.kind Kind.BitsInline (λ e. omega arith),
         above Kind.Set Kind.Map t.kind (omega arith),
       )
-      (simp append-nil (same-element ctx rs))
+      (simp append-nil)
 
-  pub own-content :
-      (t.kind ≡ Kind.Named → ⊥) → within Kind.Set Kind.Map t.kind ≡ false → within Kind.Vec2 Kind.Mat4 t.kind ≡ false → own_type_violations ctx t rs ≡ content_found ctx t rs
-  unfolding own_type_violations content_found
-  own-content named keyed geometric = rw (own_type_violations, ne_eqb t.kind Kind.Named named, keyed, geometric) (simp append-nil)
+  pub own-bits : t.kind ≡ Kind.BitsInline → own_type_violations ctx t rs ≡ bit_name_violations ctx t.place (front (is Kind.BitName) rs)
+  unfolding own_type_violations
+  own-bits h = rw (own_type_violations, h)
+
+  pub own-fixed : t.kind ≡ Kind.FixedArray → own_type_violations ctx t rs ≡ found_if 9 (eqb t.value 0) t.place
+  unfolding own_type_violations
+  own-fixed h = rw (own_type_violations, h) (simp append-nil)
+
+  -- no other kind has rules, nor has a fixed array with elements
+  pub own-none :
+      (t.kind ≡ Kind.Named → ⊥) → (t.kind ≡ Kind.FixedArray → t.value ≡ 0 → ⊥) → (Kind.Set ≤ t.kind → t.kind ≤ Kind.Map → ⊥) →
+      (Kind.Vec2 ≤ t.kind → t.kind ≤ Kind.Mat4 → ⊥) → (t.kind ≡ Kind.BitsInline → ⊥) →
+      own_type_violations ctx t rs ≡ []
+  unfolding own_type_violations
+  own-none named fixed keyed geometric bits =
+      rw (
+        own_type_violations,
+        ne_eqb t.kind Kind.Named named,
+        outside Kind.Set Kind.Map t.kind keyed,
+        outside Kind.Vec2 Kind.Mat4 t.kind geometric,
+        ne_eqb t.kind Kind.BitsInline bits,
+        no-elements (eqb t.kind Kind.FixedArray) (eqb t.value 0) refl refl,
+      )
+    where
+      no-elements : (array empty : Bool) → eqb t.kind Kind.FixedArray ≡ array → eqb t.value 0 ≡ empty → (eqb t.kind Kind.FixedArray && eqb t.value 0) ≡ false
+      no-elements true true a z = absurd (fixed (eqb-true _ _ a) (eqb-true _ _ z))
+      no-elements true false a z = rw (a, z)
+      no-elements false empty a z = rw a
 
 -- so what those rules add is what the type's own rules add
-module _ (ctx : ValidationContext ℕ Span) (sheet : List ℕ) (i a e k : ℕ) (s t : State) (kind : k ≡ kind_in (record_bytes sheet i)) where
-  pub at_named : k ≡ Kind.Named → t ≡ push_found (named_found ctx (view_at sheet i)) s → t ≡ push_found (own_type_violations ctx (view_at sheet i) (view_of sheet a e)) s
+module _ (ctx : ValidationContext ℕ Span) (sheet : List ℕ) (i : ℕ) (rs : List (Rec ℕ Span)) (old new : Violations) (k : ℕ) (kind : k ≡ kind_in (record_bytes sheet i)) where
+  pub adds_named : k ≡ Kind.Named → Adds old new (named_found ctx (view_at sheet i)) → Adds old new (own_type_violations ctx (view_at sheet i) rs)
   unfolding view_at
-  at_named h push = rw (own-named ctx (view_at sheet i) (view_of sheet a e) (sym kind ∙ h)) push
+  adds_named h adds = rw (own-named ctx (view_at sheet i) rs (sym kind ∙ h)) adds
 
-  pub at-keyed :
-      within Kind.Set Kind.Map k ≡ true → t ≡ push_found (key_violations ctx (view_of sheet a e)) s → t ≡ push_found (own_type_violations ctx (view_at sheet i) (view_of sheet a e)) s
+  pub adds_keyed : Kind.Set ≤ k → k ≤ Kind.Map → Adds old new (key_violations ctx rs) → Adds old new (own_type_violations ctx (view_at sheet i) rs)
   unfolding view_at
-  at-keyed h push = rw (own-keyed ctx (view_at sheet i) (view_of sheet a e) (rw kind at h)) push
+  adds_keyed least most adds = rw (own-keyed ctx (view_at sheet i) rs (rw kind at least) (rw kind at most)) adds
 
-  pub at-geometric :
-      within Kind.Vec2 Kind.Mat4 k ≡ true → t ≡ push_found (element_found (view_of sheet a e)) s → t ≡ push_found (own_type_violations ctx (view_at sheet i) (view_of sheet a e)) s
+  pub adds_geometric : Kind.Vec2 ≤ k → k ≤ Kind.Mat4 → Adds old new (element_violations ctx rs) → Adds old new (own_type_violations ctx (view_at sheet i) rs)
   unfolding view_at
-  at-geometric h push = rw (own-geometric ctx (view_at sheet i) (view_of sheet a e) (rw kind at h)) push
+  adds_geometric least most adds = rw (own-geometric ctx (view_at sheet i) rs (rw kind at least) (rw kind at most)) adds
 
-  pub at-content :
-      (k ≡ Kind.Named → ⊥) → within Kind.Set Kind.Map k ≡ false → within Kind.Vec2 Kind.Mat4 k ≡ false → t ≡ push_found (content_found ctx (view_at sheet i) (view_of sheet a e)) s →
-      t ≡ push_found (own_type_violations ctx (view_at sheet i) (view_of sheet a e)) s
+  pub adds_bits :
+      (span : Span) → k ≡ Kind.BitsInline → span ≡ span_in (record_bytes sheet i) → Adds old new (bit_name_violations ctx span (front (is Kind.BitName) rs)) →
+      Adds old new (own_type_violations ctx (view_at sheet i) rs)
   unfolding view_at
-  at-content named keyed geometric push =
-      rw (own-content ctx (view_at sheet i) (view_of sheet a e) (λ q. named (kind ∙ q)) (rw kind at keyed) (rw kind at geometric)) push
+  adds_bits span h read adds = rw (own-bits ctx (view_at sheet i) rs (sym kind ∙ h), ← read) adds
+
+  pub adds_fixed :
+      (n : ℕ) → k ≡ Kind.FixedArray → n ≡ value_in (record_bytes sheet i) → Adds old new (found_if 9 (eqb n 0) (span_in (record_bytes sheet i))) →
+      Adds old new (own_type_violations ctx (view_at sheet i) rs)
+  unfolding view_at
+  adds_fixed n h read adds = rw (own-fixed ctx (view_at sheet i) rs (sym kind ∙ h), ← read) adds
+
+pub adds_no_rule :
+    (ctx : ValidationContext ℕ Span) (sheet : List ℕ) (i : ℕ) (rs : List (Rec ℕ Span)) (vs : Violations) (k : ℕ) → k ≡ kind_in (record_bytes sheet i) →
+    (k ≡ Kind.Named → ⊥) → (k ≡ Kind.FixedArray → ⊥) → (Kind.Set ≤ k → k ≤ Kind.Map → ⊥) → (Kind.Vec2 ≤ k → k ≤ Kind.Mat4 → ⊥) → (k ≡ Kind.BitsInline → ⊥) →
+    Adds vs vs (own_type_violations ctx (view_at sheet i) rs)
+unfolding view_at
+adds_no_rule ctx sheet i rs vs k kind named fixed keyed geometric bits =
+    rw (own-none ctx (view_at sheet i) rs (rw kind at named) (λ e z. fixed (kind ∙ e)) (rw kind at keyed) (rw kind at geometric) (rw kind at bits)) (adds_none vs)

@@ -13,7 +13,7 @@ use Rattle.rules.specs.Types.{checked_parts}
 use Rattle.sheet.proofs.Below.{passes_below, passes_at}
 use Rattle.types.proofs.OwnKinds.{below}
 use Rattle.types.specs.declared.field_type.Due.{Due}
-use Rattle.types.specs.Due.{stack_of, stack_after}
+use Rattle.types.specs.Due.{stack_of, stack_after, is_checked}
 
 same_test : {A : Type 0} (b : Bool) (xs : List A) → map (λ part. b) xs ≡ replicate (length xs) b
 same_test b [] = refl
@@ -126,14 +126,26 @@ module _ (due : Due) (k : ℕ) (none : due.skipped ≤ 0) where
   due-checked parts type count h map generic =
       rw only-checked (after-checked k parts count type due.checked h map generic)
 
-few_parts : ℕ → Bool
-few_parts k = leb (length (Kind.parts_of k)) 2
+pub ruleset due_after = (due-skipped, due-none, due-map, due-generic, due-checked)
+
+has_few : ℕ → Bool
+has_few k = leb (length (Kind.parts_of k)) 2
 
 few : (b : Bool) (n : ℕ) → leb n 2 ≡ b → T b → n ≤ 2
 few true n e t = leb-true n 2 e
 few false n e t = absurd t
 
 -- no kind has more than two parts
-pub few-parts : (k n : ℕ) → k < 256 → n ≡ length (Kind.parts_of k) → n ≤ 2
-unfolding passes_below few_parts Kind.parts_of
-few-parts k n h e = rw e (few (few_parts k) (length (Kind.parts_of k)) refl (passes_at 256 few_parts tt k h))
+pub few_parts : (k : ℕ) → k < 256 → length (Kind.parts_of k) ≤ 2
+unfolding passes_below has_few Kind.parts_of
+few_parts k h = few (has_few k) (length (Kind.parts_of k)) refl (passes_at 256 has_few tt k h)
+
+-- the next type is one that is checked where none is skipped
+pub first_checked : (due : Due) → (eqb due.skipped 0 && not (eqb due.checked 0)) ≡ is_checked (stack_of due)
+unfolding stack_of
+first_checked due = by due.skipped due.checked
+  where
+    by : (p c : ℕ) → (eqb p 0 && not (eqb c 0)) ≡ is_checked (replicate p false ++ replicate c true)
+    by zero zero = refl
+    by zero (suc c) = rw (ne_eqb (suc c) 0 (λ e. omega arith))
+    by (suc p) c = rw (ne_eqb (suc p) 0 (λ e. omega arith))

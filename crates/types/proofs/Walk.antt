@@ -1,25 +1,22 @@
 -- The types of a type are walked record by record: what is found at a record comes first, and then what is found with the tests after it.
-use Prim.Native.Nat.{ℕ, zero, suc, ◌+◌, ◌<◌, ◌≤◌}
-use mathlib.Core.Path.{◌≡◌, refl, sym, ◌∙◌}
-use mathlib.Core.Bool.{Bool, true, false, ◌&&◌, and-false, and-true}
-use mathlib.Core.List.{List, [], ◌∷◌, ◌++◌, append-nil}
-use native.Mathlib.Omega.{arith}
-use lib.Dec.{eqb, leb}
-use lib.ListN.{replicate}
-use borrow.Author.Tests.{eqb-true, ne_eqb}
+use Rattle.std.proofs.Common.{◌≡◌, ℕ, ◌+◌, ◌<◌, ◌≤◌, Bool, true, false, ◌&&◌, List, [], ◌∷◌, ◌++◌, eqb, refl, sym, ◌∙◌, append-nil, arith, ne_eqb, eqb-true}
+use native.Mathlib.Decide.{ℕ_discrete}
 use Rattle.rules.specs.declared.span.Span.{Span}
+use Rattle.rules.specs.Words.{only_if}
 use Rattle.rules.specs.Kind
 use Rattle.rules.specs.Record.{Rec, is, record_bytes, kind_in}
 use Rattle.rules.specs.Context.{ValidationContext}
 use Rattle.rules.specs.Types.{own_type_violations, types_violations, type_violations}
-use Rattle.diagnostic.specs.Push.{State, push_found}
-use Rattle.diagnostic.proofs.FoundPushes.{found-append, found_none}
-use Rattle.names.specs.View.{view_at, view_of, context_by}
+use Rattle.rules.specs.Rule.{Found}
+use Rattle.diagnostic.specs.declared.violations.Violations.{Violations}
+use Rattle.diagnostic.specs.Violations.{Adds}
+use Rattle.names.specs.View.{view_at, view_of}
 use Rattle.types.specs.declared.field_type.Due.{Due}
 use Rattle.types.specs.Own.{named_found}
-use Rattle.types.specs.Due.{stack_of, stack_after, is_passed, is_checked, turn_found}
-use Rattle.types.proofs.OwnKinds.{both, within-true, own-named}
-use Rattle.types.proofs.Passed.{passed-optional, plain_turn, passing}
+use Rattle.types.specs.Due.{stack_of, stack_after, is_passed, is_checked}
+use Rattle.types.proofs.Left.{Leaves, leaves_rest, leaves_none}
+use Rattle.types.proofs.OwnKinds.{both, own-named, own-none}
+use Rattle.types.proofs.Passed.{passed-optional, no_bit, passed-elements, passed-wrapped, wrapped-stack, wrapped-none}
 use Rattle.types.proofs.Stack.{after-leaf}
 use Rattle.types.proofs.Views.{view-cons, view-none}
 
@@ -35,127 +32,84 @@ module _ (ctx : ValidationContext ℕ Span) where
   nothing_left [] = refl
   nothing_left (test ∷ tests) = refl
 
-  at-record : (test : Bool) (tests : List Bool) (t : Rec ℕ Span) (rs : List (Rec ℕ Span)) (bit : Bool) → is Kind.BitName t ≡ bit →
-      types_violations ctx (test ∷ tests) (t ∷ rs) ≡ turn_found ctx (test ∷ tests) t rs ++ types_violations ctx (stack_after (test ∷ tests) t.kind) rs
-  unfolding types_violations turn_found stack_after
-  at-record test tests t rs true h = rw (types_violations, turn_found, stack_after, h, and-false)
-  at-record test tests t rs false h = rw (types_violations, turn_found, stack_after, h, and-true)
+  -- at a bit name, and at a type
+  at-bit : (tests : List Bool) (t : Rec ℕ Span) (rs : List (Rec ℕ Span)) → t.kind ≡ Kind.BitName → types_violations ctx tests (t ∷ rs) ≡ types_violations ctx tests rs
+  unfolding types_violations
+  at-bit [] t rs h = sym (nothing-due rs)
+  at-bit (test ∷ tests) t rs h = rw (types_violations, h)
 
-  -- one record after the other
-  turn : (tests : List Bool) (t : Rec ℕ Span) (rs : List (Rec ℕ Span)) →
-      types_violations ctx tests (t ∷ rs) ≡ turn_found ctx tests t rs ++ types_violations ctx (stack_after tests t.kind) rs
-  unfolding turn_found stack_after types_violations
-  turn [] t rs = sym (nothing-due rs)
-  turn (test ∷ tests) t rs = at-record test tests t rs (is Kind.BitName t) refl
+  at-type :
+      (tests : List Bool) (t : Rec ℕ Span) (rs : List (Rec ℕ Span)) → (t.kind ≡ Kind.BitName → ⊥) →
+      types_violations ctx tests (t ∷ rs) ≡ only_if (is_checked tests) (own_type_violations ctx t rs) ++ types_violations ctx (stack_after tests t.kind) rs
+  unfolding types_violations stack_after
+  at-type [] t rs h = sym (nothing-due rs)
+  at-type (test ∷ tests) t rs h = rw (types_violations, stack_after, ne_eqb t.kind Kind.BitName h)
+
+  -- at a type without rules
+  at-none :
+      (tests : List Bool) (t : Rec ℕ Span) (rs : List (Rec ℕ Span)) → (t.kind ≡ Kind.BitName → ⊥) → own_type_violations ctx t rs ≡ [] →
+      types_violations ctx tests (t ∷ rs) ≡ types_violations ctx (stack_after tests t.kind) rs
+  at-none tests t rs h none = at-type tests t rs h ∙ rw none (by (is_checked tests))
+    where
+      by : (b : Bool) → only_if b [] ++ types_violations ctx (stack_after tests t.kind) rs ≡ types_violations ctx (stack_after tests t.kind) rs
+      by true = refl
+      by false = refl
+
+  -- at a record that is passed
+  at-passed : (tests : List Bool) (t : Rec ℕ Span) (rs : List (Rec ℕ Span)) → is_passed t ≡ true → types_violations ctx tests (t ∷ rs) ≡ types_violations ctx tests rs
+  at-passed tests t rs passed = by (ℕ_discrete t.kind Kind.BitName)
+    where
+      by : Dec (t.kind ≡ Kind.BitName) → types_violations ctx tests (t ∷ rs) ≡ types_violations ctx tests rs
+      by (yes bit) = at-bit tests t rs bit
+      by (no bit) =
+          let kinds = passed-wrapped t passed bit in
+          at-none tests t rs bit (wrapped-none ctx t rs kinds.0 kinds.1 (passed-elements t passed)) ∙ rw (wrapped-stack tests t.kind kinds.0 kinds.1)
 
   -- an optional adds nothing to what is found in the type within it
   pub optional-type : (t : Rec ℕ Span) (rs : List (Rec ℕ Span)) → is Kind.Optional t ≡ true → type_violations ctx (t ∷ rs) ≡ type_violations ctx rs
-  optional-type t rs h =
-      let both = passing ctx (true ∷ []) t rs (passed-optional t (eqb-true t.kind Kind.Optional h)) in
-      turn (true ∷ []) t rs ∙ rw (both.0, ← both.1)
+  optional-type t rs h = at-passed (true ∷ []) t rs (passed-optional t (eqb-true t.kind Kind.Optional h))
 
 -- a type of a kind before generic is all there is: nothing is found at a plain one, and the rules of its name at one that names something
-module _ (ctx : ValidationContext ℕ Span) (t : Rec ℕ Span) (rs : List (Rec ℕ Span)) (type : t.kind ≡ Kind.BitName → ⊥) where
-  leaf : t.kind < Kind.Generic → type_violations ctx (t ∷ rs) ≡ turn_found ctx (true ∷ []) t rs
-  leaf h = turn ctx (true ∷ []) t rs ∙ rw (after-leaf t.kind type h, nothing-due ctx rs, append-nil)
+module _ (ctx : ValidationContext ℕ Span) where
+  pub type-none : type_violations ctx [] ≡ []
+  type-none = nothing_left ctx (true ∷ [])
 
-  leaf-named : t.kind ≡ Kind.Named → type_violations ctx (t ∷ rs) ≡ named_found ctx t
-  unfolding turn_found
-  leaf-named h = leaf (omega arith) ∙ rw (turn_found, ne_eqb t.kind Kind.BitName type, own-named ctx t rs h)
+  module _ (t : Rec ℕ Span) (rs : List (Rec ℕ Span)) where
+    pub type-plain : Kind.Primitive ≤ t.kind → t.kind ≤ Kind.Semantic → type_violations ctx (t ∷ rs) ≡ []
+    type-plain least most =
+        let bit : t.kind ≡ Kind.BitName → ⊥ = λ q. omega arith in
+        at-none ctx (true ∷ []) t rs bit (own-none ctx t rs (λ q. omega arith) (λ q z. omega arith) (λ l m. omega arith) (λ l m. omega arith) (λ q. omega arith))
+        ∙ rw (after-leaf t.kind bit (omega arith), nothing-due ctx rs)
 
-module _ (ctx : ValidationContext ℕ Span) (sheet : List ℕ) (a e : ℕ) (s : State) where
-  pub type-none : e ≤ a → s ≡ push_found (type_violations ctx (view_of sheet a e)) s
-  type-none h = rw (view-none sheet a e h, nothing_left ctx (true ∷ [])) (sym (found_none s))
+    pub type-named : t.kind ≡ Kind.Named → type_violations ctx (t ∷ rs) ≡ named_found ctx t
+    type-named named =
+        let bit : t.kind ≡ Kind.BitName → ⊥ = λ q. omega arith in
+        at-type ctx (true ∷ []) t rs bit ∙ rw (after-leaf t.kind bit (omega arith), nothing-due ctx rs, own-named ctx t rs named, append-nil)
 
-  module _ (k : ℕ) (h : a < e) (kind : k ≡ kind_in (record_bytes sheet a)) where
-    pub type-plain : (leb Kind.Primitive k && leb k Kind.Semantic) ≡ true → s ≡ push_found (type_violations ctx (view_of sheet a e)) s
+module _ (ctx : ValidationContext ℕ Span) (sheet : List ℕ) (e : ℕ) (old : Violations) (all : List (Found Span)) where
+  -- what is left to add is what is found from record i on with those tests
+  abbrev pub TypesLeft : ℕ → List Bool → Violations → Type 0
+  TypesLeft i tests now = Leaves old now all (types_violations ctx tests (view_of sheet i e))
+
+  module _ (i : ℕ) (tests : List Bool) (now : Violations) (left : TypesLeft i tests now) where
+    pub types_passed : i < e → is_passed (view_at sheet i) ≡ true → TypesLeft (i + 1) tests now
+    types_passed h passed = rw (view-cons sheet i e h, at-passed ctx tests (view_at sheet i) (view_of sheet (i + 1) e) passed) at left
+
+    pub types_told :
+        (new : Violations) → i < e → is_passed (view_at sheet i) ≡ false →
+        Adds now new (only_if (is_checked tests) (own_type_violations ctx (view_at sheet i) (view_of sheet (i + 1) e))) →
+        TypesLeft (i + 1) (stack_after tests (kind_in (record_bytes sheet i))) new
     unfolding view_at
-    type-plain plain =
-        let range : (Kind.Primitive ≤ k) × (k ≤ Kind.Semantic) = within-true Kind.Primitive Kind.Semantic k plain in
-        let t = view_at sheet a in
-        let rs = view_of sheet (a + 1) e in
-        rw (view-cons sheet a e h, leaf ctx t rs (λ q. omega arith) (omega arith), plain_turn ctx (true ∷ []) t rs (omega arith)) (sym (found_none s))
+    types_told new h passed adds =
+        leaves_rest old now new all _ _ _ left
+        (rw (view-cons sheet i e h) (at-type ctx tests (view_at sheet i) (view_of sheet (i + 1) e) (no_bit sheet i passed)))
+        adds
 
-    pub type-named : (t : State) → k ≡ Kind.Named → t ≡ push_found (named_found ctx (view_at sheet a)) s → t ≡ push_found (type_violations ctx (view_of sheet a e)) s
-    unfolding view_at
-    type-named t named push =
-        rw (view-cons sheet a e h, leaf-named ctx (view_at sheet a) (view_of sheet (a + 1) e) (λ q. omega arith) (sym kind ∙ named)) push
+    pub types_end : e ≤ i → Adds old now all
+    types_end h = leaves_none old now all _ left (rw (view-none sheet i e h) (nothing_left ctx tests))
 
--- the next type is skipped if any is, and else checked if any is
-skips : (p c : ℕ) → 0 < p → is_checked (replicate p false ++ replicate c true) ≡ false
-skips zero c h = absurd (omega arith)
-skips (suc p) c h = refl
-
-checks : (c : ℕ) → (c ≡ 0 → ⊥) → is_checked (replicate c true) ≡ true
-checks zero h = absurd (h refl)
-checks (suc c) h = refl
-
-module _ (ctx : ValidationContext ℕ Span) (sheet : List ℕ) (due : Due) (i a e : ℕ) (s : State) where
-  -- nothing is told of a skipped type, past the type's end, or at a kind before those that name something; and the type's own rules else
-  pub turn-skipped : 0 < due.skipped → s ≡ push_found (turn_found ctx (stack_of due) (view_at sheet i) (view_of sheet a e)) s
-  unfolding turn_found stack_of
-  turn-skipped h = rw (skips due.skipped due.checked h) (sym (found_none s))
-
-  pub turn-none : due.skipped ≤ 0 → due.checked ≡ 0 → s ≡ push_found (turn_found ctx (stack_of due) (view_at sheet i) (view_of sheet a e)) s
-  unfolding turn_found stack_of
-  turn-none none h =
-      let z : due.skipped ≡ 0 = omega arith in
-      rw (z, h) (sym (found_none s))
-
-  pub turn-plain : (k : ℕ) → k ≡ kind_in (record_bytes sheet i) → k < Kind.Named → s ≡ push_found (turn_found ctx (stack_of due) (view_at sheet i) (view_of sheet a e)) s
-  unfolding view_at
-  turn-plain k kind plain = rw (plain_turn ctx (stack_of due) (view_at sheet i) (view_of sheet a e) (rw kind at plain)) (sym (found_none s))
-
-  pub turn-checked :
-      (k : ℕ) (t : State) → due.skipped ≤ 0 → (due.checked ≡ 0 → ⊥) → k ≡ kind_in (record_bytes sheet i) → Kind.Named ≤ k →
-      t ≡ push_found (own_type_violations ctx (view_at sheet i) (view_of sheet a e)) s →
-      t ≡ push_found (turn_found ctx (stack_of due) (view_at sheet i) (view_of sheet a e)) s
-  unfolding turn_found stack_of view_at
-  turn-checked k t none some kind type push =
-      let z : due.skipped ≡ 0 = omega arith in
-      rw (z, checks due.checked some, ne_eqb (kind_in (record_bytes sheet i)) Kind.BitName (λ q. omega arith)) push
-
-module _ (table sheet : List ℕ) (e : ℕ) (all : State) where
-  -- what is found from record i on adds to a state what is found in all
-  abbrev pub TypesLeft : ℕ → Due → State → Type 0
-  TypesLeft i due s = push_found (types_violations (context_by table sheet) (stack_of due) (view_of sheet i e)) s ≡ all
-
-  module _ (i : ℕ) (due : Due) (s t : State) (left : TypesLeft i due s) (h : i < e) (push : t ≡ push_found (turn_found (context_by table sheet) (stack_of due) (view_at sheet i) (view_of sheet (i + 1) e)) s) where
-    on : push_found (types_violations (context_by table sheet) (stack_after (stack_of due) (kind_in (record_bytes sheet i))) (view_of sheet (i + 1) e)) t ≡ all
-    unfolding view_at
-    on =
-        rw push
-        (sym (found-append _ _ s)
-        ∙ rw (view-cons sheet i e h, turn (context_by table sheet) (stack_of due) (view_at sheet i) (view_of sheet (i + 1) e)) at left)
-
-    pub types-next : (k : ℕ) (next : Due) → k ≡ kind_in (record_bytes sheet i) → stack_of next ≡ stack_after (stack_of due) k → TypesLeft (i + 1) next t
-    types-next k next kind after = rw (after, kind) on
-
-    -- where nothing is due after the record, nothing is left
-    pub types-done :
-        (k : ℕ) (next : Due) → k ≡ kind_in (record_bytes sheet i) → stack_of next ≡ stack_after (stack_of due) k → (eqb next.skipped 0 && eqb next.checked 0) ≡ true → t ≡ all
+    pub types_done : (due : Due) → stack_of due ≡ tests → (eqb due.skipped 0 && eqb due.checked 0) ≡ true → Adds old now all
     unfolding stack_of
-    types-done k next kind after done =
-        let none = both (eqb next.skipped 0) (eqb next.checked 0) done in
-        sym (found_none t)
-        ∙ rw (eqb-true next.skipped 0 none.0, eqb-true next.checked 0 none.1, nothing-due) at (types-next k next kind after)
-
-    pub types-last : i + 1 ≡ e → t ≡ all
-    types-last last =
-        sym (found_none t) ∙ rw (view-none sheet (i + 1) e (omega arith), nothing_left) at on
-
-  -- a record that is passed leaves the state and what is due as they are
-  pub types-passed : (i : ℕ) (due : Due) (s : State) (passed : Bool) → TypesLeft i due s → i < e → passed ≡ is_passed (view_at sheet i) → passed ≡ true → TypesLeft (i + 1) due s
-  unfolding view_at
-  types-passed i due s passed left h read true_of =
-      let both = passing (context_by table sheet) (stack_of due) (view_at sheet i) (view_of sheet (i + 1) e) (sym read ∙ true_of) in
-      types-next i due s s left h (rw both.0 (sym (found_none s))) (kind_in (record_bytes sheet i)) due refl both.1
-
-  pub types-end : (i : ℕ) (due : Due) (s : State) → TypesLeft i due s → e ≤ i → s ≡ all
-  types-end i due s left h = sym (found_none s) ∙ rw (view-none sheet i e h, nothing_left) at left
-
-pub types-start :
-    (table sheet : List ℕ) (a e : ℕ) (s : State) →
-    TypesLeft table sheet e (push_found (types_violations (context_by table sheet) (true ∷ []) (view_of sheet a e)) s) a (record { skipped = 0; checked = 1 }) s
-unfolding stack_of
-types-start table sheet a e s = refl
+    types_done due same done =
+        let none = both (eqb due.skipped 0) (eqb due.checked 0) done in
+        leaves_none old now all _ left (rw (← same, eqb-true due.skipped 0 none.0, eqb-true due.checked 0 none.1) (nothing-due ctx (view_of sheet i e)))

@@ -1,12 +1,10 @@
 -- The types that are due along a type's records, as two numbers: the parts that are skipped come first, and then those that are checked.
 use Rattle.std.specs.Prelude.{ℕ, Bool, true, false, not, ◌&&◌, ◌||◌, List, [], ◌∷◌, ◌++◌, map, replicate, eqb}
 use Rattle.types.specs.declared.field_type.Due.{Due}
-use Rattle.rules.specs.Words.{within, first_is, only_if}
+use Rattle.rules.specs.Words.{within, first_is}
 use Rattle.rules.specs.Kind
 use Rattle.rules.specs.Record.{Rec, is}
-use Rattle.rules.specs.Context.{ValidationContext}
-use Rattle.rules.specs.Types.{checked_parts, own_type_violations}
-use Rattle.rules.specs.Rule.{Found}
+use Rattle.rules.specs.Types.{checked_parts}
 
 -- the test for each type that is due: whether it is checked
 unfoldable pub stack_of : Due → List Bool
@@ -32,7 +30,3 @@ is_passed t =
 -- the next type is one that is checked
 abbrev pub is_checked : List Bool → Bool
 is_checked = first_is (λ checked. checked)
-
--- what is found at a record, with those records after it
-unfoldable pub turn_found : {N P : Type 0} → ValidationContext N P → List Bool → Rec N P → List (Rec N P) → List (Found P)
-turn_found ctx due t rs = only_if (is_checked due && not (is Kind.BitName t)) (own_type_violations ctx t rs)

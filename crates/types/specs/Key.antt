@@ -1,6 +1,6 @@
 -- Bad keys, where the chain of newtypes has been followed to its end; and a record by its place.
-use Rattle.std.specs.Prelude.{ℕ, zero, suc, Bool, ◌&&◌, ◌||◌, List, eqb}
-use Rattle.std.proofs.Math.Option.{Option, some, none}
+use Rattle.std.specs.Prelude.{ℕ, Bool, ◌&&◌, ◌||◌, List, eqb, Option, Some, None}
+use Rattle.std.proofs.Math.Option as Math
 use Rattle.rules.specs.declared.span.Span.{Span}
 use Rattle.rules.specs.Words.{within}
 use Rattle.rules.specs.Kind
@@ -9,10 +9,10 @@ use Rattle.rules.specs.Record.{Rec, is}
 use Rattle.rules.specs.Context.{ValidationContext, declared_as}
 use Rattle.names.specs.View.{view_at}
 
--- the record at a place, which is its index and one more; 0 is none
-unfoldable pub at_place : List ℕ → ℕ → Option (Rec ℕ Span)
-at_place sheet zero = none
-at_place sheet (suc i) = some (view_at sheet i)
+-- the record with that index, if there is one
+abbrev pub at_place : List ℕ → Option ℕ → Math.Option (Rec ℕ Span)
+at_place sheet None = Math.none
+at_place sheet (Some i) = Math.some (view_at sheet i)
 
 module _ {N P : Type 0} (ctx : ValidationContext N P) where
   -- a declared message, union or config

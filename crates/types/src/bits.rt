@@ -1,86 +1,48 @@
-// The bit names of inline bits: the records of their kind from `a` on, up to `e` at most. What is found is told at the type's span.
-ghost use Rattle.std.specs.Prelude.{◌≡◌, List, ℕ};
-ghost use Rattle.rules.specs.declared.answer.Counts.{Counts};
-ghost use Rattle.rules.specs.Words.{first_is, front};
+// The bit names of inline bits: the records of their kind that the records start with. What is found is told at the type's span.
+ghost use Rattle.std.specs.Prelude.{◌≡◌};
+ghost use Rattle.rules.specs.Words.{front};
 ghost use Rattle.rules.specs.Kind;
 ghost use Rattle.rules.specs.Record.{is};
 ghost use Rattle.rules.specs.Types.{bit_name_violations};
-ghost use Rattle.diagnostic.specs.Push.{push_found};
-ghost use Rattle.names.specs.View.{view_of, context_by};
-ghost use Rattle.types.specs.Own.{is_valid_by, bits_found};
+ghost use Rattle.diagnostic.specs.Violations.{Adds};
+ghost use Rattle.names.specs.Known.{context_in, records_in};
 
-use rules::{Counts, Span, Violation};
+use diagnostic::Violations;
+use names::ValidationContext;
+use rules::{RecordRange, Span, Violation};
 use sheet::kinds;
 
 // The code of a name that a bit may have.
 const BIT: u16 = 9;
 
 // Whether the name of record `i` is one that a bit may have.
-fn is_valid_field_name(table: &[u16; 5122], i: usize) -> bool
-    ensures { result ≡ is_valid_by table.now i }
+#[tactic(auto, unfolding(names::specs::View::context_by))]
+fn is_valid_field_name(context: ValidationContext, i: usize) -> bool
+    ensures { result ≡ (context_in context.entry).is_valid_field_name i }
 {
-    names::code(table, i) == BIT
+    context.code(i) == BIT
 }
 
-// Whether the records start with a bit name.
-fn has_bit_name(sheet: &[u8], a: usize, e: usize) -> bool
-    ensures { result ≡ first_is (is Kind.BitName) (view_of sheet.now a e) }
-{
-    if e <= a {
-        return false;
-    }
-    sheet::kind(sheet, a) == kinds::BIT_NAME
-}
-
-// Adds rule 12 for each bit name that is not valid.
-fn check_bit_names(
-    sheet: &[u8],
-    table: &[u16; 5122],
-    list: &mut [u8],
-    mut counts: Counts,
+// Adds rule 11 where there is no bit name, and rule 12 for each that is not valid.
+pub fn check_bits(
+    context: ValidationContext,
+    violations: &mut Violations,
     span: Span,
-    a: usize,
-    e: usize,
-) -> Counts
-    ensures { ◌≡◌ {A = List ℕ × Counts} (list.new, result) (push_found (bits_found (context_by table.now sheet.now) span (front (is Kind.BitName) (view_of sheet.now a e))) (list.old, counts)) }
+    rest: RecordRange,
+)
+    ensures { Adds violations.old violations.new (bit_name_violations (context_in context.entry) span (front (is Kind.BitName) (records_in context.entry rest))) }
 {
-    let mut i = a;
-    while i < e {
-        if sheet::kind(sheet, i) != kinds::BIT_NAME {
-            return counts;
+    let named = rest
+        .first()
+        .is_some_and(|i| sheet::kind(context.sheet, i) == kinds::BIT_NAME);
+    // rule 11
+    violations.push_if(!named, Violation::error(span, Violation::BitsInlineEmpty));
+    for i in rest.start..rest.end {
+        if sheet::kind(context.sheet, i) != kinds::BIT_NAME {
+            return;
         }
         // rule 12
-        let valid = is_valid_field_name(table, i);
-        counts = diagnostic::push_if(
-            list,
-            counts,
-            !valid,
-            Violation::error(span, Violation::InvalidBitName),
-        );
-        i += 1;
+        let valid = is_valid_field_name(context, i);
+        violations.push_if(!valid, Violation::error(span, Violation::InvalidBitName));
     }
-    counts
-}
-
-// Adds rule 11 where there is no bit name, and else rule 12 for each.
-pub fn check_bits(
-    sheet: &[u8],
-    table: &[u16; 5122],
-    list: &mut [u8],
-    counts: Counts,
-    span: Span,
-    a: usize,
-    e: usize,
-) -> Counts
-    ensures { ◌≡◌ {A = List ℕ × Counts} (list.new, result) (push_found (bit_name_violations (context_by table.now sheet.now) span (front (is Kind.BitName) (view_of sheet.now a e))) (list.old, counts)) }
-{
-    if has_bit_name(sheet, a, e) {
-        return check_bit_names(sheet, table, list, counts, span, a, e);
-    }
-    // rule 11
-    diagnostic::push(
-        list,
-        counts,
-        Violation::error(span, Violation::BitsInlineEmpty),
-    )
 }

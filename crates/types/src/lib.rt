@@ -3,7 +3,6 @@
 
 mod bits;
 mod declared;
-mod errors;
 mod field_type;
 mod key;
 mod optional;

@@ -1,4 +1,4 @@
-// What a condition asks of a type, which sees through optional. A type is the records from `a` up to `e`.
+// What a condition asks of a type, which sees through optional.
 ghost use Rattle.std.specs.Prelude.{◌≡◌};
 ghost use Rattle.rules.specs.Words.{rest};
 ghost use Rattle.rules.specs.Kind;
@@ -9,45 +9,39 @@ ghost use Rattle.types.specs.Collection.{is_bare_collection};
 
 use crate::subs;
 use crate::valid::is_delta_valid_type;
+use rules::RecordRange;
 use sheet::kinds;
 
-// The first record that is no optional.
-fn behind_optionals(sheet: &[u8], a: usize, e: usize) -> usize
-    ensures { view_of sheet.now result e ≡ rest (is Kind.Optional) (view_of sheet.now a e) }
+// The records from the first that is no optional on.
+fn behind_optionals(sheet: &[u8], ty: RecordRange) -> RecordRange
+    ensures { view_of sheet.now result.start result.end ≡ rest (is Kind.Optional) (view_of sheet.now ty.start ty.end) }
 {
-    let mut i = a;
-    while i < e {
-        if sheet::kind(sheet, i) != kinds::OPTIONAL {
-            return i;
-        }
-        i += 1;
-    }
-    i
+    let start = (ty.start..ty.end)
+        .find(|i| sheet::kind(sheet, *i) != kinds::OPTIONAL)
+        .unwrap_or(ty.end);
+    RecordRange { start, end: ty.end }
 }
 
 // Whether the type is numeric, behind its optionals.
-pub fn is_numeric_type(sheet: &[u8], a: usize, e: usize) -> bool
-    ensures { result ≡ is_numeric_type (view_of sheet.now a e) }
+pub fn is_numeric_type(sheet: &[u8], ty: RecordRange) -> bool
+    ensures { result ≡ is_numeric_type (view_of sheet.now ty.start ty.end) }
 {
-    is_delta_valid_type(sheet, behind_optionals(sheet, a, e), e)
+    is_delta_valid_type(sheet, behind_optionals(sheet, ty))
 }
 
 // Whether the first record is string, bytes, array or fixed array.
-fn is_bare_collection(sheet: &[u8], a: usize, e: usize) -> bool
-    ensures { result ≡ is_bare_collection (view_of sheet.now a e) }
+fn is_bare_collection(sheet: &[u8], ty: RecordRange) -> bool
+    ensures { result ≡ is_bare_collection (view_of sheet.now ty.start ty.end) }
 {
-    if e <= a {
-        return false;
-    }
-    let kind = sheet::kind(sheet, a);
-    let sub = sheet::sub(sheet, a);
-    ((kind == kinds::SEMANTIC) & ((subs::STRING <= sub) & (sub <= subs::BYTES)))
-        | ((kinds::ARRAY <= kind) & (kind <= kinds::FIXED_ARRAY))
+    ty.first().is_some_and(|i| match sheet::kind(sheet, i) {
+        kinds::SEMANTIC => matches!(sheet::sub(sheet, i), subs::STRING | subs::BYTES),
+        kind => matches!(kind, kinds::ARRAY | kinds::FIXED_ARRAY),
+    })
 }
 
 // Whether the type has a length, behind its optionals (rule 30): string, bytes, array, fixed array.
-pub fn is_collection_type(sheet: &[u8], a: usize, e: usize) -> bool
-    ensures { result ≡ is_collection_type (view_of sheet.now a e) }
+pub fn is_collection_type(sheet: &[u8], ty: RecordRange) -> bool
+    ensures { result ≡ is_collection_type (view_of sheet.now ty.start ty.end) }
 {
-    is_bare_collection(sheet, behind_optionals(sheet, a, e), e)
+    is_bare_collection(sheet, behind_optionals(sheet, ty))
 }

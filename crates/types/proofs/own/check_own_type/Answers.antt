@@ -1,0 +1,31 @@
+-- The kind decides which rules are asked.
+use Rattle.std.proofs.Common.{rules}
+use Rattle.rules.specs.Rule.{rule_row}
+use Rattle.diagnostic.proofs.Added.{adds_if}
+use Rattle.types.proofs.OwnKinds.{adds_named, adds_keyed, adds_geometric, adds_bits, adds_fixed, adds_no_rule}
+use Rattle.types.proofs.own.check_own_type.Goals as goal
+
+pub returns-in-33 : goal.returns-in-33
+returns-in-33 c = search (rules, adds_named)
+
+pub returns-in-48 : goal.returns-in-48
+returns-in-48 c = search (rules, adds_bits)
+
+pub returns-in-38 : goal.returns-in-38
+unfolding rule_row
+returns-in-38 c = search (rules, adds_fixed, adds_if)
+
+pub returns-in-39-to-40 : goal.returns-in-39-to-40
+returns-in-39-to-40 c = adds_keyed _ _ _ _ _ _ _ c.kind.ensures (search rules) (search rules) c.check_map_key_type.ensures
+
+pub returns-in-42-to-47 : goal.returns-in-42-to-47
+returns-in-42-to-47 c = adds_geometric _ _ _ _ _ _ _ c.kind.ensures (search rules) (search rules) c.check_element.ensures
+
+pub returns-then-this-lt38 : goal.returns-then-this-lt38
+returns-then-this-lt38 c = search (rules, adds_no_rule)
+
+pub returns-then-this-lt42 : goal.returns-then-this-lt42
+returns-then-this-lt42 c = search (rules, adds_no_rule)
+
+pub returns-else-this-lt48 : goal.returns-else-this-lt48
+returns-else-this-lt48 c = search (rules, adds_no_rule)
