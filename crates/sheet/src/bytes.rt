@@ -21,13 +21,6 @@ pub fn record(sheet: &[u8], i: usize) -> &[u8]
     &sheet[..0]
 }
 
-// The number in four bytes.
-fn joined(a: u8, b: u8, c: u8, d: u8) -> u32
-    ensures { result ≡ a + 256 * (b + 256 * (c + 256 * d)) }
-{
-    a as u32 + 256 * (b as u32) + 65536 * (c as u32) + 16777216 * (d as u32)
-}
-
 // The byte at `at`.
 pub fn byte(b: &[u8], at: usize) -> u8
     ensures { result ≡ get_or b.now at 0 }
@@ -41,14 +34,14 @@ pub fn word(b: &[u8], at: usize) -> u32
     ensures { result ≡ number_at at 4 b.now }
 {
     if at + 4 <= b.len() {
-        joined(b[at], b[at + 1], b[at + 2], b[at + 3])
+        u32::from_le_bytes([b[at], b[at + 1], b[at + 2], b[at + 3]])
     } else {
-        joined(
+        u32::from_le_bytes([
             byte(b, at),
             byte(b, at + 1),
             byte(b, at + 2),
             byte(b, at + 3),
-        )
+        ])
     }
 }
 

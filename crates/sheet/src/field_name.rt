@@ -88,6 +88,7 @@ pub fn name_marks() -> [u8; 256]
 }
 
 // Whether the byte may start a name, by the table.
+#[tactic(auto, unfolding(crate::specs::Mark::starts_by))]
 pub fn starts_by(marks: &[u8; 256], b: u8) -> bool
     ensures { result ≡ starts_by marks.now b }
 {
@@ -96,6 +97,7 @@ pub fn starts_by(marks: &[u8; 256], b: u8) -> bool
 }
 
 // Whether the byte may go on in a name, by the table.
+#[tactic(auto, unfolding(crate::specs::Mark::continues_by))]
 fn continues_by(marks: &[u8; 256], b: u8) -> bool
     ensures { result ≡ continues_by marks.now b }
 {

@@ -112,6 +112,7 @@ pub fn is_known(kind: u8) -> bool
 }
 
 // Whether a record of the kind and the sub has a name.
+#[tactic(auto, unfolding(rules::specs::Words::any_of))]
 pub fn is_named(kind: u8, sub: u8) -> bool
     ensures { result ≡ Kind.has_name kind sub }
 {
@@ -130,6 +131,7 @@ pub fn is_named(kind: u8, sub: u8) -> bool
 }
 
 // Whether the kind's value is an ordinal.
+#[tactic(auto, unfolding(rules::specs::Words::any_of))]
 pub fn has_ordinal(kind: u8) -> bool
     ensures { result ≡ Kind.has_ordinal kind }
 {
@@ -151,6 +153,7 @@ pub fn has_ordinal_span(kind: u8) -> bool
 }
 
 // How many subs the kind has; 0 for a kind without a sub.
+#[tactic(auto, unfolding(rules::specs::Words::look_up))]
 pub fn sub_count(kind: u8) -> u8
     ensures { result ≡ Kind.sub_count kind }
 {
@@ -171,6 +174,7 @@ pub fn sub_count(kind: u8) -> u8
 }
 
 // How many parts follow a record of the kind, and belong to it.
+#[tactic(auto, unfolding(rules::specs::Kind::parts_of))]
 pub fn part_count(kind: u8) -> u8
     ensures { result ≡ length (Kind.parts_of kind) }
 {

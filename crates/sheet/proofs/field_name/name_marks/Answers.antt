@@ -2,9 +2,8 @@
 use Rattle.sheet.specs.Mark.{name_mark}
 use Rattle.sheet.proofs.Below.{passes_below}
 use Rattle.sheet.proofs.Marks.{marks_bytes, has-marks}
-use Rattle.sheet.proofs.field_name.name_marks.Statement.{statement}
-use Rattle.sheet.proofs.field_name.name_marks.Tie as tie
+use Rattle.sheet.proofs.field_name.name_marks.Goals as goal
 
-pub name_marks_spec : {M : Type 1} → statement M
+pub returns : goal.returns
 unfolding marks_bytes passes_below name_mark
-name_marks_spec = tie.close (tie.spec (λ c. has-marks _ tt))
+returns c = has-marks _ tt
