@@ -19,7 +19,7 @@ pub fn validate_where_expr(
     ensures { Adds violations.old violations.new (condition_violations (context_in context.entry) (records_in context.entry ty) (records_in context.entry condition)) }
 {
     let literals = literals_of(context.sheet, ty);
-    let collection = types::is_collection_type(context.sheet, ty.start, ty.end);
+    let collection = types::is_collection_type(context.sheet, ty);
     for start in condition.start..condition.end {
         let node = RecordRange {
             start,

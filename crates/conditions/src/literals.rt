@@ -41,7 +41,7 @@ fn int_alone(int: bool) -> Literals
 pub fn literals_of(sheet: &[u8], ty: RecordRange) -> Literals
     ensures { taken result ≡ literals_of (view_of sheet.now ty.start ty.end) }
 {
-    let int = types::is_numeric_type(sheet, ty.start, ty.end);
+    let int = types::is_numeric_type(sheet, ty);
     let Some(first) = ty.first() else {
         return int_alone(int);
     };

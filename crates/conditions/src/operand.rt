@@ -30,7 +30,7 @@ const CONST: u8 = 7;
 fn is_known_const(context: ValidationContext, i: usize) -> bool
     ensures { result ≡ is_known_const (context_in context.entry) i }
 {
-    context.is_imported(i) || types::is_declared_as(context.sheet, context.table, CONST, i)
+    context.is_imported(i) || types::is_declared_as(context, CONST, i)
 }
 
 // Whether an operand of that sub is a literal that a type with those literals does not take.
