@@ -1,4 +1,5 @@
-// A violation: its class, its severity and where it was found.
+// A violation: its class, its severity and where it was found. Class and severity are numbers and no enums: a violation is also read back from the bytes of a
+// list, whatever they are.
 ghost use Rattle.std.specs.Prelude.{◌≡◌};
 
 use crate::span::Span;

@@ -4,7 +4,7 @@ ghost use Rattle.rules.specs.Context.{valid_field_name};
 ghost use Rattle.sheet.specs.Mark.{HasMarks, starts_by, continues_by, continues_at, continue_by, valid_by};
 ghost use Rattle.sheet.specs.Window.{passes};
 
-// The mark of each byte: 3 for one that may start a name and go on in it, 1 for one that may only go on, 0 for the rest.
+// The mark of each byte, a number of the table and no enum, as it is read by its bits: 3 for one that may start a name and go on in it, 1 for one that may only go on, 0 for the rest.
 const NAME_MARKS: [u8; 256] = [
     0, 0, 0, 0, 0, 0, 0, 0, 0, 0, 0, 0, 0, 0, 0, 0, 0, 0, 0, 0, 0, 0, 0, 0, 0, 0, 0, 0, 0, 0, 0, 0,
     0, 0, 0, 0, 0, 0, 0, 0, 0, 0, 0, 0, 0, 0, 0, 0, 1, // 0

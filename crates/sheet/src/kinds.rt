@@ -1,4 +1,5 @@
-// The kinds of a record, and what each has.
+// The kinds of a record, and what each has. They are numbers and no enum: a kind is any byte of a sheet that may not have been judged, and the rules tell
+// kinds by ranges.
 ghost use Rattle.std.specs.Prelude.{◌≡◌, length};
 ghost use Rattle.rules.specs.Kind;
 
