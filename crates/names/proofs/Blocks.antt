@@ -1,19 +1,22 @@
 -- Blocks of a text. Two parts of a text that meet go on just if both do. So a part of the text goes on if its piece in each block does, and
 -- the piece in a block that goes on needs no look.
-use Prim.Native.Nat.{ℕ, zero, suc, ◌+◌, ◌-◌, ◌*◌, ◌/◌, ◌≤◌, ◌<◌}
+use Prim.Native.Nat.{ℕ, zero, suc, ◌+◌, ◌-◌, ◌*◌, ◌/◌, ◌≤◌, ◌<◌, min, max}
 use mathlib.Core.Path.{◌≡◌, refl, ◌∙◌, sym}
 use mathlib.Core.Bool.{Bool, true, false, not, ◌&&◌, ◌||◌}
 use mathlib.Core.List.{List, [], ◌∷◌, ◌++◌}
+use native.Mathlib.Decide.{dec_lt}
 use native.Mathlib.Omega.{arith}
 use lib.Dec.{eqb, ltb}
 use lib.ListN.{length, get_or, set, take, drop, replicate, length-drop}
 use lib.Seq.{take-add, take_all, drop-drop, get_or-set_other}
 use borrow.Author.Tests.{eqb-true, eqb-false, ltb-true, ltb-false}
+use Rattle.std.specs.Prelude.{Option, Some, None}
 use Rattle.rules.specs.Words.{any_of}
 use Rattle.rules.proofs.Lists.{any_of-append}
-use Rattle.sheet.specs.Mark.{continues_by, continue_by}
+use Rattle.rules.specs.Context.{valid_field_name}
+use Rattle.sheet.specs.Mark.{HasMarks, starts_by, continues_by, continue_by}
+use Rattle.sheet.proofs.Marks.{valid-by, bad-start, good_start}
 use Rattle.names.specs.Code.{Judged}
-use Rattle.names.proofs.Columns.{zeros-at}
 
 first_of : (a b : Bool) → (a && b) ≡ true → a ≡ true
 first_of true b h = refl
@@ -27,25 +30,23 @@ neither-of : (a b : Bool) → not (a || b) ≡ (not a && not b)
 neither-of true b = refl
 neither-of false b = refl
 
--- what is read where a number was stored, if not 0, is that number
-stored : (blocks : List ℕ) (k known : ℕ) → get_or (set blocks k known) k 0 ≡ 1 → known ≡ 1
-stored [] k known h = absurd (omega arith)
-stored (x ∷ blocks) zero known h = h
-stored (x ∷ blocks) (suc k) known h = stored blocks k known h
+-- what is known of a block after it was looked at is what was seen
+stored : (blocks : List (Option Bool)) (k : ℕ) (good : Bool) → get_or (set blocks k (Some good)) k None ≡ Some true → good ≡ true
+stored [] k good h = cc
+stored (x ∷ blocks) zero good h = cc
+stored (x ∷ blocks) (suc k) good h = stored blocks k good h
 
--- a text of which a block starts at a place has the whole block, or the rest is shorter
-whole-block : (text : List ℕ) (at end : ℕ) → at ≤ end → end ≤ length text → end ≤ at + 64 → (end < length text → end ≡ at + 64) → take (end - at) (drop at text) ≡ take 64 (drop at text)
-whole-block text at end l m n full = decided (ltb end (length text)) refl
+-- a text from a place on up to the end of the block that starts there, or to its own end
+whole-block : (text : List ℕ) (at : ℕ) → at < length text → take (min (length text) (at + 64) - at) (drop at text) ≡ take 64 (drop at text)
+whole-block text at l = go (dec_lt (length text) (at + 64))
   where
-    decided : (more : Bool) → ltb end (length text) ≡ more → take (end - at) (drop at text) ≡ take 64 (drop at text)
-    decided true e =
-        let same = full (ltb-true end (length text) e) in
-        let size : end - at ≡ 64 = omega arith in
+    go : Dec (length text < at + 64) → take (min (length text) (at + 64) - at) (drop at text) ≡ take 64 (drop at text)
+    go (no more) =
+        let size : min (length text) (at + 64) - at ≡ 64 = omega arith in
         rw size
-    decided false e =
-        let out = ltb-false end (length text) e in
+    go (yes last) =
         let size = length-drop at text in
-        take_all (end - at) (drop at text) (omega arith) ∙ sym (take_all 64 (drop at text) (omega arith))
+        take_all (min (length text) (at + 64) - at) (drop at text) (omega arith) ∙ sym (take_all 64 (drop at text) (omega arith))
 
 module _ (marks : List ℕ) where
   pub same-bytes-continue : (xs ys : List ℕ) (all : Bool) → xs ≡ ys → all ≡ continue_by marks xs → all ≡ continue_by marks ys
@@ -64,50 +65,93 @@ module _ (marks : List ℕ) where
         rw (both, take-add (m - a) (e - m) (drop a text), drop-drop (m - a) a text, place, joined)
 
     -- what a look at a block tells
-    module _ (k end : ℕ) (good : Bool) (g : good ≡ continue_by marks (take (end - k * 64) (drop (k * 64) text))) (l : k * 64 < end) (m : end ≤ length text) (n : end ≤ k * 64 / 64 * 64 + 64) (full : end < length text → end ≡ k * 64 / 64 * 64 + 64) where
-      block : take (end - k * 64) (drop (k * 64) text) ≡ take 64 (drop (k * 64) text)
-      block = whole-block text (k * 64) end (omega arith) m (omega arith) (λ h. let same = full h in omega arith)
+    module _ (k end : ℕ) (good : Bool) (l : k * 64 < length text) (e : end ≡ min (length text) (k * 64 + 64)) (g : good ≡ continue_by marks (take (end - k * 64) (drop (k * 64) text))) where
+      pub looked : good ≡ continue_by marks (take 64 (drop (k * 64) text))
+      looked = rw (e, whole-block text (k * 64) l) at g
 
-      pub looked : good ≡ true → continue_by marks (take 64 (drop (k * 64) text)) ≡ true
-      looked t = sym (same-bytes-continue _ _ good block g) ∙ t
-
-      pub judged-more : (blocks : List ℕ) (known : ℕ) → Judged marks text blocks → (known ≡ 1 → good ≡ true) → Judged marks text (set blocks k known)
-      unfolding Judged
-      judged-more blocks known judged h j = decided (eqb j k) refl
+      pub judged_more : (blocks : List (Option Bool)) → Judged marks text blocks → Judged marks text (set blocks k (Some good))
+      judged_more blocks judged j = decided (eqb j k) refl
         where
-          decided : (same : Bool) → eqb j k ≡ same → get_or (set blocks k known) j 0 ≡ 1 → continue_by marks (take 64 (drop (j * 64) text)) ≡ true
+          decided : (same : Bool) → eqb j k ≡ same → get_or (set blocks k (Some good)) j None ≡ Some true → continue_by marks (take 64 (drop (j * 64) text)) ≡ true
           decided true e t =
               let here : j ≡ k = eqb-true j k e in
-              rw here (looked (h (stored blocks k known (rw here at t))))
-          decided false e t = judged j (rw (get_or-set_other blocks k j known 0 (eqb-false j k e)) at t)
+              rw here (sym looked ∙ stored blocks k good (rw here at t))
+          decided false e t = judged j (rw (get_or-set_other blocks k j (Some good) None (eqb-false j k e)) at t)
 
-    pub known-good : (blocks : List ℕ) (k : ℕ) → Judged marks text blocks → eqb (get_or blocks k 0) 1 ≡ true → continue_by marks (take 64 (drop (k * 64) text)) ≡ true
-    unfolding Judged
-    known-good blocks k judged t = judged k (eqb-true (get_or blocks k 0) 1 t)
+    pub known_good : (blocks : List (Option Bool)) (k : ℕ) → Judged marks text blocks → get_or blocks k None ≡ Some true → continue_by marks (take 64 (drop (k * 64) text)) ≡ true
+    known_good blocks k judged e = judged k e
 
     -- a piece of a block that goes on
-    pub piece-told : (k a e : ℕ) (good : Bool) → (good ≡ true → continue_by marks (take 64 (drop (k * 64) text)) ≡ true) → good ≡ true → k * 64 ≤ a → a < e → e ≤ k * 64 + 64 → true ≡ continue_by marks (take (e - a) (drop a text))
-    piece-told k a e good h t l m n =
+    piece-told : (k a e : ℕ) → continue_by marks (take 64 (drop (k * 64) text)) ≡ true → k * 64 ≤ a → a ≤ e → e ≤ k * 64 + 64 → continue_by marks (take (e - a) (drop a text)) ≡ true
+    piece-told k a e t l m n =
         let size : k * 64 + 64 - k * 64 ≡ 64 = omega arith in
         let piece : ℕ → ℕ → Bool = λ i j. continue_by marks (take (j - i) (drop i text)) in
-        let behind = second-of (piece (k * 64) a) (piece a (k * 64 + 64)) (sym (cut (k * 64) a (k * 64 + 64) l (omega arith)) ∙ rw size (h t)) in
-        sym (first_of (piece a e) (piece e (k * 64 + 64)) (sym (cut a e (k * 64 + 64) (omega arith) n) ∙ behind))
+        let behind = second-of (piece (k * 64) a) (piece a (k * 64 + 64)) (sym (cut (k * 64) a (k * 64 + 64) l (omega arith)) ∙ rw size t) in
+        first_of (piece a e) (piece e (k * 64 + 64)) (sym (cut a e (k * 64 + 64) m n) ∙ behind)
 
-    -- a walk over the pieces of a part: those behind decide
-    module _ (i stop e : ℕ) (whole good : Bool) (w : whole ≡ continue_by marks (take (e - i) (drop i text))) (g : good ≡ continue_by marks (take (stop - i) (drop i text))) (l : i < stop) (m : stop ≤ e) where
-      pub piece-goes-on : good ≡ true → whole ≡ continue_by marks (take (e - stop) (drop stop text))
-      piece-goes-on t = w ∙ cut i stop e (omega arith) m ∙ rw (sym g ∙ t)
+    -- a walk over the pieces of a part, block by block: the bytes from block k on decide, since those before go on
+    pub record Walked (start end k : ℕ) : Type 0 where
+      pub decide : continue_by marks (take (end - start) (drop start text)) ≡ continue_by marks (take (end - max start (k * 64)) (drop (max start (k * 64)) text))
 
-      pub piece-stops : good ≡ false → false ≡ whole
-      piece-stops f = sym (w ∙ cut i stop e (omega arith) m ∙ rw (sym g ∙ f))
+    module _ (start end : ℕ) where
+      pub walk_starts : Walked start end (start / 64)
+      walk_starts =
+          let here : max start (start / 64 * 64) ≡ start = omega arith in
+          record { decide = rw here }
 
-    pub pieces-all : (i e : ℕ) (whole : Bool) → whole ≡ continue_by marks (take (e - i) (drop i text)) → e ≤ i → true ≡ whole
-    unfolding continue_by any_of
-    pieces-all i e whole w l =
-        let none : e - i ≡ 0 = omega arith in
-        sym (rw none at w)
+      pub walk_ends : (k : ℕ) → end ≤ k * 64 → Walked start end k → true ≡ continue_by marks (take (end - start) (drop start text))
+      unfolding continue_by any_of
+      walk_ends k l walked =
+          let none : end - max start (k * 64) ≡ 0 = omega arith in
+          sym (rw none at walked.decide)
+
+      module _ (k from to : ℕ) (a : start / 64 ≤ k) (b : k * 64 < end) (c : start ≤ end) (f : from ≡ max start (k * 64)) (t : to ≡ k * 64 + min (end - k * 64) 64) (walked : Walked start end k) where
+        parted : continue_by marks (take (end - start) (drop start text)) ≡ (continue_by marks (take (to - from) (drop from text)) && continue_by marks (take (end - to) (drop to text)))
+        parted = walked.decide ∙ rw (← f) (cut from to end (omega arith) (omega arith))
+
+        pub walk_stops : false ≡ continue_by marks (take (to - from) (drop from text)) → false ≡ continue_by marks (take (end - start) (drop start text))
+        walk_stops h = sym (parted ∙ rw (sym h))
+
+        pub walk_on : true ≡ continue_by marks (take (to - from) (drop from text)) → Walked start end (k + 1)
+        walk_on h = record { decide = parted ∙ rw (sym h) (behind (dec_lt (k * 64 + 64) end)) }
+          where
+            behind : Dec (k * 64 + 64 < end) → continue_by marks (take (end - to) (drop to text)) ≡ continue_by marks (take (end - max start ((k + 1) * 64)) (drop (max start ((k + 1) * 64)) text))
+            behind (yes l) =
+                let same : max start ((k + 1) * 64) ≡ to = omega arith in
+                rw same
+            behind (no l) =
+                let none : end - max start ((k + 1) * 64) ≡ 0 = omega arith in
+                let none' : end - to ≡ 0 = omega arith in
+                rw (none, none')
+
+      pub walk_on_block : (k : ℕ) → start / 64 ≤ k → k * 64 < end → start ≤ end → Walked start end k → continue_by marks (take 64 (drop (k * 64) text)) ≡ true → Walked start end (k + 1)
+      walk_on_block k a b c walked h =
+          walk_on k (max start (k * 64)) (k * 64 + min (end - k * 64) 64) a b c refl refl walked
+          (sym (piece-told k (max start (k * 64)) (k * 64 + min (end - k * 64) 64) h (omega arith) (omega arith) (omega arith)))
 
     -- at the start nothing is known
-    pub judged-none : (n : ℕ) → Judged marks text (replicate n 0)
-    unfolding Judged
-    judged-none n k t = absurd (omega (arith, zeros-at n k))
+    pub judged_none : (n : ℕ) → Judged marks text (replicate n None)
+    judged_none n k t = cc (nothing n k)
+      where
+        nothing : (m j : ℕ) → ◌≡◌ {A = Option Bool} (get_or (replicate m None) j None) None
+        nothing zero j = refl
+        nothing (suc m) zero = refl
+        nothing (suc m) (suc j) = nothing m j
+
+-- what decides whether a part of a text goes on, block by block
+pub ruleset walks = (walk_starts, walk_ends, walk_stops, walk_on, walk_on_block)
+
+-- what a look at a name's first byte, and at all its bytes, tells of it
+pub spelled_none : (name : List ℕ) → length name ≡ 0 → false ≡ valid_field_name name
+unfolding valid_field_name
+spelled_none [] l = refl
+spelled_none (b ∷ bs) l = absurd (omega arith)
+
+module _ (marks : List ℕ) (has : HasMarks marks) (name : List ℕ) where
+  pub spelled_badly : starts_by marks (get_or name 0 0) ≡ false → false ≡ valid_field_name name
+  spelled_badly f = valid-by marks has name false (bad-start marks name false (sym f) refl)
+
+  pub spelled_on : (length name ≡ 0 → ⊥) → starts_by marks (get_or name 0 0) ≡ true → continue_by marks name ≡ valid_field_name name
+  spelled_on some t = valid-by marks has name _ (good_start marks name true _ some (sym t) refl refl)
+
+pub ruleset spelled = (spelled_none, spelled_badly, spelled_on)

@@ -16,6 +16,10 @@ pub known-few : (sheet : List ℕ) → known_count sheet ≤ 1024
 unfolding known_count
 known-few sheet = min-le_left 1024 (length sheet / 32)
 
+pub known_bounds : (sheet : List ℕ) → (known_count sheet ≤ 1024) × (known_count sheet ≤ length sheet / 32)
+unfolding known_count
+known_bounds sheet = (min-le_left 1024 (length sheet / 32), min-le_right 1024 (length sheet / 32))
+
 module _ (sheet names : List ℕ) where
   pub length-known : length (known sheet names) ≡ known_count sheet
   unfolding known known_count

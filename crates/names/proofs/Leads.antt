@@ -15,7 +15,7 @@ use Rattle.names.specs.NameTable.{is_named, is_keyed, same_name}
 use Rattle.names.specs.Parts.{known_count, record_of}
 use Rattle.names.specs.Buckets.{bucket_of, Lead, LastLead, Chained}
 use Rattle.names.proofs.Columns.{zeros-at}
-use Rattle.names.proofs.Known.{known-few}
+use Rattle.names.proofs.Known.{known-few, known_bounds}
 use Rattle.names.proofs.Numbers.{whole-known, keyed-named, names-compared}
 use Rattle.names.proofs.SameIds.{same-tells}
 use Rattle.names.proofs.Firsts.{id_at, id-unnamed, id-known, id-same-name, id-within, id-shared}
@@ -212,7 +212,7 @@ module _ (sheet names : List ℕ) where
   bucket-of i b name en eb = rw (← en) eb
 
   -- what record i adds to the chains
-  module _ (heads links : List ℕ) (i : ℕ) (h : i < known_count sheet) (few : i < 1024) (chained : Chained sheet names heads links i) where
+  module _ (heads links : List ℕ) (i : ℕ) (h : i < known_count sheet) (chained : Chained sheet names heads links i) where
     pub added-unnamed : is_keyed (at i) ≡ false → Chained sheet names heads links (i + 1)
     added-unnamed f =
         chained-kept heads links i chained (λ b lead.
@@ -224,13 +224,15 @@ module _ (sheet names : List ℕ) where
     pub added_none : is_keyed (at i) ≡ false → (i ≡ id i) × (i ≤ i) × Chained sheet names heads links (i + 1)
     added_none f = (sym (id-unnamed sheet names i f), omega arith, added-unnamed f)
 
-    module _ (found : ℕ) (hf : found ≡ id i) where
-      pub added-old : (found ≡ i → ⊥) → Chained sheet names heads links (i + 1)
-      added-old old = chained-kept heads links i chained (λ b lead. old (hf ∙ lead.first))
+    pub added_old : (found : ℕ) → found ≡ id i → found < i → Chained sheet names heads links (i + 1)
+    added_old found hf l = chained-kept heads links i chained (λ b lead. let same = hf ∙ lead.first in omega arith)
 
-      pub added_new :
-          (b p : ℕ) → is_keyed (at i) ≡ true → b ≡ bucket_at i → b < 1024 → found ≡ i → p ≡ i + 1 →
-          Chained sheet names (set heads b p) (set links i (get_or heads b 0)) (i + 1)
-      added_new b p named eb hb new ep =
-          let lead : Lead sheet names b i = record { known-record = h; named = named; bucket = sym eb; first = sym hf ∙ new } in
-          rw ep (chained_more heads links i chained b hb few lead)
+    pub added_new :
+        (b : ℕ) → is_keyed (at i) ≡ true → b ≡ bucket_at i → b < 1024 → id i ≡ i →
+        Chained sheet names (set heads b (i + 1)) (set links i (get_or heads b 0)) (i + 1)
+    added_new b named eb hb new =
+        let few = known-few sheet in
+        chained_more heads links i chained b hb (omega arith) (record { known-record = h; named = named; bucket = sym eb; first = new })
+
+-- what decides a walk along a chain
+pub ruleset walks = (walk_start, walk-named, walk-ended, walk-found, walk-on, walk-less, bucket-of, known_bounds)

@@ -17,7 +17,6 @@ pub mod ColumnEntries
 pub mod Lookups
 pub mod SameIds
 pub mod Firsts
-pub mod Weighed
 pub mod Leads
 pub mod Noting
 pub mod Reading

@@ -20,7 +20,7 @@ use Rattle.names.specs.NameTable.{place_of, is_named, is_keyed, id_in}
 use Rattle.names.specs.Notes.{has_id, set_first, declaration_note, import_note, Read}
 use Rattle.names.specs.Parts.{known, known_count, record_of}
 use Rattle.names.proofs.FirstPlaces.{one_on}
-use Rattle.names.proofs.Known.{length-known, known_at}
+use Rattle.names.proofs.Known.{length-known, known_at, known_bounds}
 use Rattle.names.proofs.Numbers.{kind-tested}
 use Rattle.names.proofs.SameIds.{has-id}
 use Rattle.names.proofs.Stored.{part_same, part-set, part-ahead, part-behind}
@@ -57,24 +57,6 @@ module _ {A : Type 0} (p : A → Bool) (x : A) where
       go true true d = refl
       go true false d = refl
       go false c d = refl
-
--- a number is stored only where there is 0
-module _ (t : List ℕ) (p v : ℕ) where
-  pub first-kept : (get_or t p 0 ≡ 0 → ⊥) → t ≡ set_first t p v
-  unfolding set_first
-  first-kept some = go (get_or t p 0) some
-    where
-      go : (n : ℕ) → (n ≡ 0 → ⊥) → t ≡ elim n [ zero ↦ set t p v | suc m ↦ t ]
-      go zero f = absurd (f refl)
-      go (suc n) f = refl
-
-  pub first-set : (w : ℕ) → w ≡ v → get_or t p 0 ≡ 0 → set t p w ≡ set_first t p v
-  unfolding set_first
-  first-set w e none = ap (set t p) e ∙ go (get_or t p 0) none
-    where
-      go : (n : ℕ) → n ≡ 0 → set t p v ≡ elim n [ zero ↦ set t p v | suc m ↦ t ]
-      go zero f = refl
-      go (suc n) f = absurd (omega arith)
 
 module _ (sheet names : List ℕ) (m : ℕ) (h : m < known_count sheet) where
   abbrev rs : List (Rec (List ℕ) Span)
@@ -190,15 +172,37 @@ module _ (sheet names : List ℕ) (m : ℕ) (h : m < known_count sheet) where
             codes-part = part-ahead before.codes-part (2048 + id) 1 (omega arith);
           }
 
-  -- the record's kind, as it is read
-  module _ (kind : ℕ) (e : kind ≡ kind_in (record_bytes sheet m)) where
-    pub kind-keyed : is_named r ≡ true → (k : ℕ) → is_compared k ≡ true → kind ≡ k → is_keyed r ≡ true
-    kind-keyed named k compared f = kind-tested sheet names m named kind e is_compared true (sym (ap is_compared f ∙ compared))
+  -- what the record's kind says
+  kind-is : (k : ℕ) → kind_in (record_bytes sheet m) ≡ k → is k r ≡ true
+  unfolding record_of decode
+  kind-is k f = eq-eqb (kind_in (record_bytes sheet m)) k f
 
-    pub kind-is : (k : ℕ) → kind ≡ k → is k r ≡ true
-    unfolding record_of decode
-    kind-is k f = eq-eqb (kind_in (record_bytes sheet m)) k (sym e ∙ f)
+  kind-is-not : (k : ℕ) → (kind_in (record_bytes sheet m) ≡ k → ⊥) → is k r ≡ false
+  unfolding record_of decode
+  kind-is-not k f = ne_eqb (kind_in (record_bytes sheet m)) k f
 
-    pub kind-is-not : (k : ℕ) → (kind ≡ k → ⊥) → is k r ≡ false
-    unfolding record_of decode
-    kind-is-not k f = ne_eqb (kind_in (record_bytes sheet m)) k (λ same. f (e ∙ same))
+  pub says_nothing :
+      (t : List ℕ) → Read sheet names t (m + 1) m → (kind_in (record_bytes sheet m) ≡ Kind.Declaration → ⊥) →
+      (kind_in (record_bytes sheet m) ≡ Kind.ImportedName → ⊥) → Read sheet names t (m + 1) (m + 1)
+  says_nothing t before d i =
+      noted-none t (m + 1) before (kind-silent Kind.Declaration (kind-is-not Kind.Declaration d)) (kind-silent Kind.ImportedName (kind-is-not Kind.ImportedName i))
+
+  module _ (named : is_named r ≡ true) (t : List ℕ) (before : Read sheet names t (m + 1) m) (id : ℕ) (small : id < 1024) (e : id ≡ id_in rs m r) where
+    kind-keyed : (k : ℕ) → is_compared k ≡ true → kind_in (record_bytes sheet m) ≡ k → is_keyed r ≡ true
+    kind-keyed k compared f =
+        kind-tested sheet names m named (kind_in (record_bytes sheet m)) refl is_compared true (sym (ap is_compared f ∙ compared))
+
+    pub says_declaration : kind_in (record_bytes sheet m) ≡ Kind.Declaration → (t' : List ℕ) → t' ≡ set_first t (1024 + id) (m + 1) → Read sheet names t' (m + 1) (m + 1)
+    unfolding any_of
+    says_declaration f =
+        noted-declaration t (m + 1) before id small (kind-keyed Kind.Declaration refl f) e (kind-is Kind.Declaration f)
+        (kind-is-not Kind.ImportedName (λ other. omega arith))
+
+    pub says_import : kind_in (record_bytes sheet m) ≡ Kind.ImportedName → Read sheet names (set t (2048 + id) 1) (m + 1) (m + 1)
+    unfolding any_of
+    says_import f =
+        noted-import t (m + 1) before id small (kind-keyed Kind.ImportedName refl f) e (kind-is Kind.ImportedName f)
+        (kind-is-not Kind.Declaration (λ other. omega arith))
+
+-- what a record says of its name
+pub ruleset notes = (says_nothing, says_declaration, says_import, known_bounds)

@@ -2,21 +2,21 @@
 -- `return`.
 use Prim.Native.Nat.{ℕ, ◌+◌, ◌-◌, ◌*◌, ◌/◌, ◌≤◌, ◌<◌}
 use mathlib.Core.Path.{◌≡◌, refl, ◌∙◌, sym}
-use mathlib.Core.Bool.{Bool, true, false, ◌&&◌, true≢false}
+use mathlib.Core.Bool.{Bool, true, false, ◌&&◌, true≢false, not, ◌||◌}
 use mathlib.Core.List.{List}
 use native.Mathlib.Omega.{arith}
-use lib.ListN.{length, get_or, take, drop}
-use lib.Seq.{take-take}
+use lib.ListN.{length, get_or, take, drop, length-drop}
+use lib.Seq.{take-take, take_all}
 use lib.Dec.{leb}
 use borrow.Author.Tests.{leb-true, le-leb, lt-leb}
 use Rattle.rules.proofs.Lists.{and_left, and_right}
 use Rattle.rules.specs.declared.span.Span.{Span}
 use Rattle.rules.specs.Kind
 use Rattle.rules.specs.Words.{same_bytes}
-use Rattle.rules.specs.Record.{Rec, decode, record_bytes, kind_in, is_named_in, fits_in, name_in, name_offset, name_length}
+use Rattle.rules.specs.Record.{Rec, decode, record_bytes, kind_in, is_named_in, fits_in, name_fits, name_in, name_offset, name_length}
 use Rattle.names.specs.NameTable.{column, is_named, is_keyed, same_name}
 use Rattle.names.specs.Parts.{known, known_count, record_of}
-use Rattle.names.proofs.Known.{length-known, known_at}
+use Rattle.names.proofs.Known.{length-known, known_at, known_bounds}
 use Rattle.names.proofs.Columns.{column-at}
 
 -- the number of records
@@ -137,3 +137,36 @@ module _ (sheet names own : List ℕ) (i : ℕ) (e : own ≡ record_bytes sheet 
 
   pub own-kind : (kind : ℕ) → kind ≡ kind_in (record_bytes own 0) → kind ≡ kind_in (record_bytes sheet i)
   own-kind kind h = rw own-bytes at h
+
+-- a record has a name if its kind says so and the name's part ends within the names text, and the name is that part
+module _ (sheet names : List ℕ) (i : ℕ) where
+  pub named_by : is_named (record_of sheet names i) ≡ (is_named_in (record_bytes sheet i) && name_fits names (record_bytes sheet i))
+  unfolding record_of decode fits_in
+  named_by = both (is_named_in (record_bytes sheet i)) (name_fits names (record_bytes sheet i))
+    where
+      both : (a b : Bool) → (a && (not a || b)) ≡ (a && b)
+      both true b = refl
+      both false b = refl
+
+  pub name_by : is_named (record_of sheet names i) ≡ true → name_in names (record_bytes sheet i) ≡ take (name_length (record_bytes sheet i)) (drop (name_offset (record_bytes sheet i)) names)
+  unfolding name_in
+  name_by named =
+      let parts : (is_named_in (record_bytes sheet i) && name_fits names (record_bytes sheet i)) ≡ true = sym named_by ∙ named in
+      rw (and_left (is_named_in (record_bytes sheet i)) (name_fits names (record_bytes sheet i)) parts, and_right (is_named_in (record_bytes sheet i)) (name_fits names (record_bytes sheet i)) parts)
+
+-- a part cut out of the rest of a text
+pub rest_part : (text : List ℕ) (start len : ℕ) → take (len - 0) (drop 0 (take (length text - start) (drop start text))) ≡ take len (drop start text)
+rest_part text start len =
+    let size : len - 0 ≡ len = omega arith in
+    rw (size, take_all (length text - start) (drop start text) (omega (arith, length-drop start text)))
+
+-- a record is the first of its own bytes
+module _ (sheet own : List ℕ) (i : ℕ) (e : own ≡ record_bytes sheet i) where
+  pub own_again : record_bytes own 0 ≡ record_bytes sheet i
+  own_again = rw (e, take-take 32 32 (drop (32 * i) sheet) (omega arith))
+
+  pub record_again : (names : List ℕ) → record_of own names 0 ≡ record_of sheet names i
+  unfolding record_of
+  record_again names = rw own_again
+
+pub ruleset again = (own_again, record_again, known_bounds)

@@ -1,6 +1,6 @@
 -- Two names have the same bytes if they are of one length and the window of all their indices passes. Compared byte by byte, they are the
 -- same just if what follows is, as long as the bytes agree.
-use Prim.Native.Nat.{ℕ, zero, suc, ◌+◌, ◌≤◌}
+use Prim.Native.Nat.{ℕ, zero, suc, ◌+◌, ◌≤◌, ◌<◌}
 use mathlib.Core.Path.{◌≡◌, refl, ◌∙◌, ap}
 use mathlib.Core.Bool.{Bool, true, false, and-false}
 use mathlib.Core.List.{List, [], ◌∷◌}
@@ -10,6 +10,7 @@ use lib.Seq.{drop-nil}
 use borrow.Author.Tests.{eq-eqb, ne_eqb}
 use Rattle.rules.specs.Words.{same_bytes}
 use Rattle.sheet.specs.Window.{passes}
+use Rattle.sheet.proofs.Windows.{Walked, none-fails, one_more, window-done, window-fails, walk-starts, walk-goes-on, walk_ends}
 use Rattle.sheet.proofs.Windows.{behind-first}
 use Rattle.names.specs.Same.{same_at}
 
@@ -62,3 +63,10 @@ module _ (a b : List ℕ) (i : ℕ) (l : length a ≡ length b) (same : same_byt
   pub all-agree : length a ≤ i → true ≡ same_bytes a b
   unfolding same_bytes
   all-agree h = rw (same, drop_of_length-le a {i = i} h, drop_of_length-le b {i = i} (omega arith))
+
+-- the window that is walked over last ends where the last one starts or later
+pub walk_done : (test : ℕ → Bool) (n size last i : ℕ) (window : Bool) → Walked test n size last i → window ≡ passes test i n → window ≡ true → i < last → last ≤ i + n → true ≡ passes test 0 size
+walk_done test n size last i window walked w t l m = walk_ends test n size last (i + n) (walk-goes-on test n size last i walked window w t l) m
+
+-- what decides whether two names have the same bytes, window by window
+pub ruleset windows = (none-fails, one_more, window-done, window-fails, walk-starts, walk-goes-on, walk_ends, walk_done, lengths_differ, all_same)

@@ -21,7 +21,7 @@ use Rattle.names.specs.Parts.{known, known_count, record_of, target_of, ids, dec
 use Rattle.names.proofs.Columns.{column-past, length_ids, length-declarations, length-imported, length-targets, length-codes}
 use Rattle.names.proofs.FirstPlaces.{place-never, place-passes, any_place}
 use Rattle.names.proofs.Firsts.{id_at, id-unnamed, id-known, id-same-name, id-shared, id-within}
-use Rattle.names.proofs.Known.{known-few, length-known, known_at}
+use Rattle.names.proofs.Known.{known-few, known_bounds, length-known, known_at}
 use Rattle.names.proofs.Numbers.{part_at}
 use Rattle.names.proofs.Reading.{id-number}
 use Rattle.names.proofs.SameIds.{id-says}
@@ -358,3 +358,8 @@ pub spread-all :
 spread-all sheet names t i n e a b before =
     let last : i ≡ known_count sheet = omega arith in
     all-spread sheet names t (rw last at before)
+
+-- what decides whether nothing is noted, and what spreads the notes
+pub ruleset silences = (silent-none, silent-more, silent-whole)
+
+pub ruleset spreads = (own-small, spread-undeclared, spread-declared, spread_none, none-spread, spread-all, known_bounds)

@@ -20,10 +20,20 @@ too_few place [] h = refl
 too_few place (d ∷ []) h = refl
 too_few place (d ∷ t ∷ rs) h = absurd (omega arith)
 
+-- the type of the declaration at a place is told by the record before it and by the one at it
 module _ (sheet : List ℕ) (place n : ℕ) (positive : 0 < place) (hn : n ≡ known_count sheet) where
-  pub none_after : n ≤ place → (names : List ℕ) → 0 ≡ target_at place (drop (place - 1) (known sheet names))
+  pub from_here : (names : List ℕ) → target_of (known sheet names) place ≡ target_at place (drop (place - 1) (known sheet names))
+  from_here names = go place positive
+    where
+      go : (p : ℕ) → 0 < p → target_of (known sheet names) p ≡ target_at p (drop (p - 1) (known sheet names))
+      go zero l = absurd (omega arith)
+      go (suc m) l =
+          let less : suc m - 1 ≡ m = omega arith in
+          rw less
+
+  pub none_after : n ≤ place → (names : List ℕ) → 0 ≡ target_of (known sheet names) place
   none_after h names =
-      too_few place (drop (place - 1) (known sheet names)) (rw (length-drop, length-known, ← hn) (omega arith))
+      rw from_here (too_few place (drop (place - 1) (known sheet names)) (rw (length-drop, length-known, ← hn) (omega arith)))
 
   module _ (h : place < n) (sub : ℕ) (hs : sub ≡ sub_in (record_bytes sheet (place - 1))) where
     two : (names : List ℕ) → drop (place - 1) (known sheet names) ≡ record_of sheet names (place - 1) ∷ record_of sheet names place ∷ drop (place + 1) (known sheet names)
@@ -31,29 +41,19 @@ module _ (sheet : List ℕ) (place n : ℕ) (positive : 0 < place) (hn : n ≡ k
         let next : place - 1 + 1 ≡ place = omega arith in
         rw (known-drop sheet names (place - 1) (rw (← hn) (omega arith)), next, known-drop sheet names place (rw (← hn) h))
 
-    pub no-newtype : (sub ≡ 4 → ⊥) → (names : List ℕ) → 0 ≡ target_at place (drop (place - 1) (known sheet names))
+    pub no_newtype : (sub ≡ 4 → ⊥) → (names : List ℕ) → 0 ≡ target_of (known sheet names) place
     unfolding record_of decode
-    no-newtype d names = rw (two names, ne_eqb (sub_in (record_bytes sheet (place - 1))) 4 (λ e. d (hs ∙ e)))
+    no_newtype d names = rw (from_here, two names, ne_eqb (sub_in (record_bytes sheet (place - 1))) 4 (λ e. d (hs ∙ e)))
 
     module _ (e : sub ≡ 4) (kind : ℕ) (hk : kind ≡ kind_in (record_bytes sheet place)) (is : Bool) (hi : is ≡ Kind.is_type kind) where
-      pub type-after : (r : ℕ) → is ≡ true → r ≡ place + 1 → (names : List ℕ) → r ≡ target_at place (drop (place - 1) (known sheet names))
+      pub type_after : is ≡ true → (names : List ℕ) → place + 1 ≡ target_of (known sheet names) place
       unfolding record_of decode
-      type-after r t hr names =
-          rw (two names, eq-eqb (sub_in (record_bytes sheet (place - 1))) 4 (sym hs ∙ e), ← hk, sym hi ∙ t) (rw (← add-one) hr)
+      type_after t names =
+          rw (from_here, two names, eq-eqb (sub_in (record_bytes sheet (place - 1))) 4 (sym hs ∙ e), ← hk, sym hi ∙ t) (add-one place)
 
-      pub no-type-after : is ≡ false → (names : List ℕ) → 0 ≡ target_at place (drop (place - 1) (known sheet names))
+      pub no_type_after : is ≡ false → (names : List ℕ) → 0 ≡ target_of (known sheet names) place
       unfolding record_of decode
-      no-type-after f names =
-          rw (two names, eq-eqb (sub_in (record_bytes sheet (place - 1))) 4 (sym hs ∙ e), ← hk, sym hi ∙ f)
+      no_type_after f names =
+          rw (from_here, two names, eq-eqb (sub_in (record_bytes sheet (place - 1))) 4 (sym hs ∙ e), ← hk, sym hi ∙ f)
 
--- no place has no type, and a place has the type after the declaration there
-pub target_none : (sheet : List ℕ) (place : ℕ) → place ≡ 0 → (names : List ℕ) → 0 ≡ target_of (known sheet names) place
-target_none sheet place e names = rw e
-
-pub target_at_lem :
-    (sheet : List ℕ) (place v : ℕ) → (place ≡ 0 → ⊥) → ((names : List ℕ) → v ≡ target_at place (drop (place - 1) (known sheet names))) →
-    (names : List ℕ) → v ≡ target_of (known sheet names) place
-target_at_lem sheet zero v n e names = absurd (n refl)
-target_at_lem sheet (suc m) v n e names =
-    let less : suc m - 1 ≡ m = omega arith in
-    rw less at (e names)
+pub ruleset targets = (none_after, no_newtype, type_after, no_type_after)

@@ -5,15 +5,16 @@ ghost use Rattle.rules.specs.Asked.{is_compared, is_worded};
 use sheet::kinds;
 
 // Whether the name of a record of the kind may be compared with others or looked up.
+#[tactic(auto, unfolding(rules::specs::Words::any_of))]
 pub fn is_compared(kind: u8) -> bool
     ensures { result ≡ is_compared kind }
 {
-    !((kind == kinds::VARIANT) | (kind == kinds::ARGUMENT) | (kind == kinds::BIT_NAME))
+    !matches!(kind, kinds::VARIANT | kinds::ARGUMENT | kinds::BIT_NAME)
 }
 
 // Whether the name of a record of the kind may be a word.
 pub fn is_worded(kind: u8) -> bool
     ensures { result ≡ is_worded kind }
 {
-    (kinds::ANNOTATION <= kind) & (kind <= kinds::ARGUMENT)
+    matches!(kind, kinds::ANNOTATION..=kinds::ARGUMENT)
 }

@@ -1,121 +1,100 @@
 // Whether a bit may have a name. The bytes of a long name are told by blocks of the names text, each of which is looked at once, when a name needs it, so
 // that names which share their bytes cost no more than those bytes.
-ghost use Rattle.std.specs.Prelude.{◌≡◌, true, ◌+◌, ◌-◌, ◌*◌, ◌/◌, ◌≤◌, ◌<◌, length, take, drop};
+ghost use Rattle.std.specs.Prelude.{◌≡◌, true, ◌-◌, ◌*◌, ◌≤◌, ◌<◌, length, take, drop};
 ghost use Rattle.rules.specs.Record.{record_bytes, name_in};
 ghost use Rattle.rules.specs.Context.{valid_field_name};
 ghost use Rattle.sheet.specs.Mark.{HasMarks, continue_by};
 ghost use Rattle.names.specs.NameTable.{is_named};
 ghost use Rattle.names.specs.Parts.{record_of};
-ghost use Rattle.names.specs.Code.{Judged};
+ghost use Rattle.names.specs.Code.{Judged, HasMarks-prop};
 
 // How many bytes a block has, and how many blocks a names text of 16384 bytes.
 const BLOCK: usize = 64;
 
-pub const BLOCKS: usize = 256;
+const BLOCKS: usize = 256;
 
-// What is known of a block: nothing yet, that all its bytes may go on in a name, or that some may not.
-const UNREAD: u8 = 0;
-
-const GOOD: u8 = 1;
-
-const BAD: u8 = 2;
-
-// What is known of a block that was looked at.
-fn known_of(good: bool) -> u8
-    ensures { result ≡ 1 → good ≡ true }
-{
-    if good { GOOD } else { BAD }
+// A names text, the marks that tell its bytes, and whether all bytes of a block may go on in a name, for each block that was looked at.
+#[derive(Drop)]
+pub struct Spelling<'a> {
+    marks: &'a [u8; 256],
+    pub names: &'a [u8],
+    blocks: [Option<bool>; BLOCKS],
+    ghost has_marks: { HasMarks marks.now } by { HasMarks-prop marks.now },
+    ghost judged: { Judged marks.now names.now blocks },
 }
 
-// Where the block of byte `i` ends, or `e` if that comes first.
-fn block_end(i: usize, e: usize) -> usize
-    requires { i < e }
-    ensures { (i < result) × (result ≤ e) × (result ≤ i / 64 * 64 + 64) × (result < e → result ≡ i / 64 * 64 + 64) }
-{
-    let left = BLOCK - i % BLOCK;
-    if e - i < left { e } else { i + left }
-}
-
-// Whether all bytes of block `k` may go on in a name, as far as that is known: of the first 256 blocks.
-fn is_good(marks: &[u8; 256], names: &[u8], blocks: &mut [u8; BLOCKS], k: usize) -> bool
-    requires { (k * 64 < length names.now) × Judged marks.now names.now blocks.old }
-    ensures { (result ≡ true → continue_by marks.now (take 64 (drop (k * 64) names.now)) ≡ true) × Judged marks.now names.now blocks.new }
-{
-    if BLOCKS <= k {
-        return false;
+impl<'a> Spelling<'a> {
+    // The names text, of which no block was looked at.
+    #[tactic(auto, using(crate::proofs::Blocks::judged_none))]
+    pub fn new(marks: &'a [u8; 256], names: &'a [u8]) -> Self
+        requires { HasMarks marks.now }
+        ensures { result.names.now ≡ names.now }
+    {
+        Spelling {
+            marks,
+            names,
+            blocks: [None; BLOCKS],
+        }
     }
-    let known = blocks[k];
-    if known != UNREAD {
-        return known == GOOD;
-    }
-    let at = k * BLOCK;
-    let end = block_end(at, names.len());
-    let good = sheet::continue_by(marks, &names[at..end]);
-    blocks[k] = known_of(good);
-    good
-}
 
-// Whether each byte from `a` to `e`, all in block `k`, may go on in a name.
-fn block_continues(
-    marks: &[u8; 256],
-    names: &[u8],
-    blocks: &mut [u8; BLOCKS],
-    k: usize,
-    a: usize,
-    e: usize,
-) -> bool
-    requires { (k * 64 ≤ a) × (a < e) × (e ≤ k * 64 + 64) × (e ≤ length names.now) × Judged marks.now names.now blocks.old }
-    ensures { (result ≡ continue_by marks.now (take (e - a) (drop a names.now))) × Judged marks.now names.now blocks.new }
-{
-    if is_good(marks, names, blocks, k) {
-        return true;
-    }
-    sheet::continue_by(marks, &names[a..e])
-}
-
-// Whether each byte from `a` to `e` may go on in a name.
-fn part_continues(
-    marks: &[u8; 256],
-    names: &[u8],
-    blocks: &mut [u8; BLOCKS],
-    a: usize,
-    e: usize,
-) -> bool
-    requires { (a ≤ e) × (e ≤ length names.now) × Judged marks.now names.now blocks.old }
-    ensures { (result ≡ continue_by marks.now (take (e - a) (drop a names.now))) × Judged marks.now names.now blocks.new }
-{
-    let mut i = a;
-    while i < e {
-        let stop = block_end(i, e);
-        if !block_continues(marks, names, blocks, i / BLOCK, i, stop) {
+    // Whether all bytes of block `k` may go on in a name, as far as that is known: of the first 256 blocks.
+    fn is_good(&mut self, k: usize) -> bool
+        requires { k * 64 < length self.old.names.now }
+        ensures told { result ≡ true → continue_by self.old.marks.now (take 64 (drop (k * 64) self.old.names.now)) ≡ true }
+        ensures same { (self.new.marks ≡ self.old.marks) × (self.new.names ≡ self.old.names) }
+    {
+        if BLOCKS <= k {
             return false;
         }
-        i = stop;
+        if let Some(good) = self.blocks[k] {
+            return good;
+        }
+        let start = k * BLOCK;
+        let end = self.names.len().min(start + BLOCK);
+        let good = sheet::continue_by(self.marks, &self.names[start..end]);
+        self.blocks[k] = Some(good);
+        good
     }
-    true
-}
 
-// Whether a bit may have the name, which is that of the first record.
-pub fn is_valid(
-    sheet: &[u8],
-    names: &[u8],
-    marks: &[u8; 256],
-    blocks: &mut [u8; BLOCKS],
-    name: &[u8],
-) -> bool
-    requires { (is_named (record_of sheet.now names.now 0) ≡ true) × (name.now ≡ name_in names.now (record_bytes sheet.now 0)) × HasMarks marks.now × Judged marks.now names.now blocks.old }
-    ensures { (result ≡ valid_field_name name.now) × Judged marks.now names.now blocks.new }
-{
-    if name.len() == 0 {
-        return false;
+    // Whether each byte from `start` to `end` may go on in a name.
+    #[tactic(auto, using(crate::proofs::Blocks::walks))]
+    fn part_continues(&mut self, start: usize, end: usize) -> bool
+        requires { (start ≤ end) × (end ≤ length self.old.names.now) }
+        ensures told { result ≡ continue_by self.old.marks.now (take (end - start) (drop start self.old.names.now)) }
+        ensures same { (self.new.marks ≡ self.old.marks) × (self.new.names ≡ self.old.names) }
+    {
+        for k in start / BLOCK..end.div_ceil(BLOCK) {
+            let at = k * BLOCK;
+            let from = start.max(at);
+            let to = at + (end - at).min(BLOCK);
+            if self.is_good(k) {
+                continue;
+            }
+            if !sheet::continue_by(self.marks, &self.names[from..to]) {
+                return false;
+            }
+        }
+        true
     }
-    if !sheet::starts_by(marks, name[0]) {
-        return false;
+
+    // Whether a bit may have the name, which is that of the first record.
+    #[tactic(auto, using(crate::proofs::Blocks::spelled, crate::proofs::Numbers::named_by, crate::proofs::Numbers::name_by))]
+    pub fn is_valid(&mut self, sheet: &[u8], name: &[u8]) -> bool
+        requires { (is_named (record_of sheet.now self.old.names.now 0) ≡ true) × (name.now ≡ name_in self.old.names.now (record_bytes sheet.now 0)) }
+        ensures told { result ≡ valid_field_name name.now }
+        ensures same { (self.new.marks ≡ self.old.marks) × (self.new.names ≡ self.old.names) }
+    {
+        let [first, ..] = name else {
+            return false;
+        };
+        if !sheet::starts_by(self.marks, *first) {
+            return false;
+        }
+        if name.len() <= BLOCK {
+            return sheet::continue_by(self.marks, name);
+        }
+        let start = sheet::name_offset(sheet, 0);
+        let end = start + sheet::name_len(sheet, 0);
+        self.part_continues(start, end)
     }
-    if name.len() <= BLOCK {
-        return sheet::continue_by(marks, name);
-    }
-    let start = sheet::name_offset(sheet, 0);
-    let end = start + sheet::name_len(sheet, 0);
-    part_continues(marks, names, blocks, start, end)
 }

@@ -5,18 +5,20 @@ ghost use Rattle.sheet.specs.Window.{passes};
 ghost use Rattle.names.specs.Same.{same_at};
 
 // Whether the `n` bytes from `at` on are the same. No byte ends the loop early, so that many are compared at once.
+#[tactic(auto, using(crate::proofs::Same::windows), unfolding(crate::specs::Same::same_at))]
 pub fn window_same(a: &[u8], b: &[u8], at: usize, n: usize) -> bool
     requires { (at + n ≤ length a.now) × (at + n ≤ length b.now) }
     ensures { result ≡ passes (same_at a.now b.now) at n }
 {
     let mut all = true;
     for k in 0..n {
-        all = all & (a[at + k] == b[at + k]);
+        all &= a[at + k] == b[at + k];
     }
     all
 }
 
 // Whether both have the same bytes, by windows of `n` bytes; the last may overlap the one before it.
+#[tactic(auto, using(crate::proofs::Same::windows))]
 fn windows_same(a: &[u8], b: &[u8], n: usize) -> bool
     requires { (0 < n) × (n ≤ length a.now) × (length a.now ≡ length b.now) }
     ensures { result ≡ passes (same_at a.now b.now) 0 (length a.now) }
@@ -25,17 +27,16 @@ fn windows_same(a: &[u8], b: &[u8], n: usize) -> bool
     if !window_same(a, b, last, n) {
         return false;
     }
-    let mut i = 0;
-    while i < last {
+    for i in (0..last).step_by(n) {
         if !window_same(a, b, i, n) {
             return false;
         }
-        i += n;
     }
     true
 }
 
 // Whether both have the same bytes, by windows that suit the length of a name.
+#[tactic(auto, using(crate::proofs::Same::windows))]
 pub fn same_bytes(a: &[u8], b: &[u8]) -> bool
     ensures { result ≡ same_bytes a.now b.now }
 {

@@ -2,33 +2,20 @@
 ghost use Rattle.std.specs.Prelude.{◌≡◌, ◌+◌, ◌*◌, ◌≤◌, ◌<◌, length, get_or};
 ghost use Rattle.names.specs.Buckets.{word_at, weighed_bytes, weighed_ends, weighed_next, weighed_middle, weighed, bucket_of};
 
-// The byte, as a number.
-fn wide(byte: u8) -> u64
-    ensures { (result ≡ byte) × (result < 256) }
-{
-    byte as u64
-}
-
-// The number in four bytes.
-fn joined(a: u8, b: u8, c: u8, d: u8) -> u64
-    ensures { (result ≡ a + 256 * b + 65536 * c + 16777216 * d) × (result < 4294967296) }
-{
-    a as u64 + 256 * (b as u64) + 65536 * (c as u64) + 16777216 * (d as u64)
-}
-
 // The number in the four bytes from `at` on.
+#[tactic(auto, unfolding(crate::specs::Buckets::word_at))]
 fn word(name: &[u8], at: usize) -> u64
     requires { at + 4 ≤ length name.now }
     ensures { (result ≡ word_at at name.now) × (result < 4294967296) }
 {
-    joined(name[at], name[at + 1], name[at + 2], name[at + 3])
+    u64::from(u32::from_le_bytes([name[at], name[at + 1], name[at + 2], name[at + 3]]))
 }
 
 // The byte at `at`; 0 past the last.
 fn byte(name: &[u8], at: usize) -> u64
     ensures { (result ≡ get_or name.now at 0) × (result < 256) }
 {
-    if at < name.len() { wide(name[at]) } else { 0 }
+    name.get(at).map_or(0, |&byte| u64::from(byte))
 }
 
 // The bytes of a name of fewer than four, weighed.
@@ -64,6 +51,7 @@ fn middle(name: &[u8]) -> u64
 }
 
 // The bytes, weighed.
+#[tactic(auto, unfolding(crate::specs::Buckets::weighed))]
 fn weigh(name: &[u8]) -> u64
     ensures { result ≡ weighed name.now }
 {
@@ -81,6 +69,7 @@ fn weigh(name: &[u8]) -> u64
 }
 
 // The bucket.
+#[tactic(auto, unfolding(crate::specs::Buckets::bucket_of))]
 pub fn bucket(name: &[u8]) -> usize
     ensures { (result ≡ bucket_of name.now) × (result < 1024) }
 {

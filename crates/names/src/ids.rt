@@ -1,64 +1,57 @@
-// Where the name of record `i` is met first: the id.
-ghost use Rattle.std.specs.Prelude.{◌≡◌, true, ◌+◌, ◌≤◌, ◌<◌};
-ghost use Rattle.rules.specs.Record.{record_bytes, kind_in, name_in};
-ghost use Rattle.names.specs.NameTable.{is_named, is_keyed, id_in};
-ghost use Rattle.names.specs.Parts.{known, known_count, record_of};
+// Where the name of a record is met first: the id.
+ghost use Rattle.std.specs.Prelude.{◌≡◌, true, ◌+◌, ◌≤◌, ◌<◌, MatchOption};
+ghost use Rattle.names.specs.NameTable.{id_in, is_keyed};
+ghost use Rattle.names.specs.Parts.{known, record_of};
 ghost use Rattle.names.specs.Buckets.{bucket_of, Chained};
 
 use crate::asked::is_compared;
 use crate::compare::same_bytes;
-use crate::count::{index, short};
 use crate::hash::bucket;
 use crate::layout;
-use crate::own::name_at;
+use crate::own::{Named, name_at};
 
-// The id of a record whose name is compared, looked for in the chain of its bucket, which has all first records before it.
-fn first_same(
-    sheet: &[u8],
-    names: &[u8],
-    heads: &[u16; layout::PART],
-    links: &[u16; layout::PART],
-    i: usize,
-    name: &[u8],
-    b: usize,
-) -> usize
-    requires { (i < known_count sheet.now) × (is_keyed (record_of sheet.now names.now i) ≡ true) × (name.now ≡ name_in names.now (record_bytes sheet.now i)) × (b ≡ bucket_of (record_of sheet.now names.now i).name) × (b < 1024) × Chained sheet.now names.now heads.now links.now i }
-    ensures { (result ≡ id_in (known sheet.now names.now) i (record_of sheet.now names.now i)) × (result ≤ i) }
-{
-    let mut place = index(heads[b]);
-    while place != 0 {
-        let k = place - 1;
-        if same_bytes(name_at(sheet, names, k), name) {
-            return k;
-        }
-        place = index(links[k]);
-    }
-    i
+// The records that are the first with their name, in a chain for each bucket: the place of the last of each bucket, and of the one before each record.
+// A place is 0 where there is none, as in the table.
+#[derive(Drop)]
+pub struct Chains {
+    pub heads: [u16; layout::PART],
+    pub links: [u16; layout::PART],
 }
 
-// The id of record `i`, which is of that kind and has that name. A record that is the first with its name is put at the head of its bucket's chain; a
-// record whose name is not compared is its own.
-pub fn next_id(
-    sheet: &[u8],
-    names: &[u8],
-    heads: &mut [u16; layout::PART],
-    links: &mut [u16; layout::PART],
-    i: usize,
-    kind: u8,
-    name: &[u8],
-) -> usize
-    requires { (i < known_count sheet.now) × (i < 1024) × (is_named (record_of sheet.now names.now i) ≡ true) × (kind ≡ kind_in (record_bytes sheet.now i)) × (name.now ≡ name_in names.now (record_bytes sheet.now i)) × Chained sheet.now names.now heads.old links.old i }
-    ensures { (result ≡ id_in (known sheet.now names.now) i (record_of sheet.now names.now i)) × (result ≤ i) × Chained sheet.now names.now heads.new links.new (i + 1) }
-{
-    if !is_compared(kind) {
-        return i;
+impl Chains {
+    // The id of a record whose name is compared, if the chain of its bucket, which has all first records before it, has a record with the name.
+    #[tactic(auto, using(crate::proofs::Leads::walks))]
+    fn find(&self, named: &Named, bucket: usize) -> Option<usize>
+        requires { (is_keyed (record_of named.now.sheet.now named.now.names.now named.now.index) ≡ true) × (bucket ≡ bucket_of named.now.name.now) × (bucket < 1024) × Chained named.now.sheet.now named.now.names.now self.now.heads self.now.links named.now.index }
+        ensures { MatchOption result (id_in (known named.now.sheet.now named.now.names.now) named.now.index (record_of named.now.sheet.now named.now.names.now named.now.index) ≡ named.now.index) (λ id. (id ≡ id_in (known named.now.sheet.now named.now.names.now) named.now.index (record_of named.now.sheet.now named.now.names.now named.now.index)) × (id < named.now.index)) }
+    {
+        let mut place = usize::from(self.heads[bucket]);
+        while place != 0 {
+            let first = place - 1;
+            if same_bytes(name_at(named.sheet, named.names, first), named.name) {
+                return Some(first);
+            }
+            place = usize::from(self.links[first]);
+        }
+        None
     }
-    let b = bucket(name);
-    let id = first_same(sheet, names, heads, links, i, name, b);
-    if id != i {
-        return id;
+
+    // The id of the record. A record that is the first with its name is put at the head of its bucket's chain; a record whose name is not compared is its own.
+    #[tactic(auto, using(crate::proofs::Known::known_bounds))]
+    pub fn next_id(&mut self, named: &Named) -> usize
+        requires { Chained named.now.sheet.now named.now.names.now self.old.heads self.old.links named.now.index }
+        ensures { (result ≡ id_in (known named.now.sheet.now named.now.names.now) named.now.index (record_of named.now.sheet.now named.now.names.now named.now.index)) × (result ≤ named.now.index) × Chained named.now.sheet.now named.now.names.now self.new.heads self.new.links (named.now.index + 1) }
+    {
+        let index = named.index;
+        if !is_compared(named.kind) {
+            return index;
+        }
+        let bucket = bucket(named.name);
+        if let Some(id) = self.find(named, bucket) {
+            return id;
+        }
+        self.links[index] = self.heads[bucket];
+        self.heads[bucket] = (index + 1) as u16;
+        index
     }
-    links[i] = heads[b];
-    heads[b] = short(i + 1);
-    id
 }

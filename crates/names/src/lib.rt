@@ -2,7 +2,6 @@
 #![tactic(auto)]
 
 mod asked;
-mod clear;
 mod codes;
 mod compare;
 mod context;

@@ -5,6 +5,7 @@ ghost use Rattle.names.specs.View.{entry_of, id_part, declaration_part, import_p
 use crate::layout;
 
 // The number for record `i` in a part of the table.
+#[tactic(auto, unfolding(crate::specs::View::entry_of))]
 fn entry(table: &[u16; layout::SIZE], part: usize, i: usize) -> u16
     requires { part < 5 }
     ensures { result ≡ entry_of part table.now i }

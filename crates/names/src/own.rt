@@ -1,45 +1,77 @@
 // The name of a record, read from its own bytes, so that where they end is tested once.
-ghost use Rattle.std.specs.Prelude.{◌≡◌, true, ◌/◌, ◌<◌, length};
-ghost use Rattle.rules.specs.Record.{record_bytes, name_in};
+ghost use Rattle.std.specs.Prelude.{◌≡◌, true, false, ◌/◌, ◌<◌, length, MatchOption};
+ghost use Rattle.rules.specs.Record.{record_bytes, kind_in, name_in};
 ghost use Rattle.names.specs.NameTable.{is_named};
-ghost use Rattle.names.specs.Parts.{record_of};
+ghost use Rattle.names.specs.Parts.{known_count, record_of};
 
 use rules::Sheet;
 
-// Whether the first record has a name, and the name fits.
-pub fn is_first_named(sheet: &[u8], names: &[u8]) -> bool
-    ensures { result ≡ is_named (record_of sheet.now names.now 0) }
+// The bytes of record `i`.
+pub fn own_bytes(sheet: &[u8], i: usize) -> &[u8]
+    requires { i < length sheet.now / 32 }
+    ensures { result.now ≡ record_bytes sheet.now i }
+{
+    let at = i * Sheet::RECORD;
+    &sheet[at..at + Sheet::RECORD]
+}
+
+// The name of the first record, if it has one and the name fits.
+#[tactic(auto, using(crate::proofs::Numbers::named_by, crate::proofs::Numbers::name_by, crate::proofs::Numbers::rest_part))]
+pub fn own_name<'a>(sheet: &[u8], names: &'a [u8]) -> Option<&'a [u8]>
+    ensures { MatchOption result (is_named (record_of sheet.now names.now 0) ≡ false) (λ name. (is_named (record_of sheet.now names.now 0) ≡ true) × (name.now ≡ name_in names.now (record_bytes sheet.now 0))) }
 {
     if !sheet::has_name(sheet, 0) {
-        return false;
+        return None;
     }
     let start = sheet::name_offset(sheet, 0);
     let len = sheet::name_len(sheet, 0);
-    if names.len() < start {
-        return false;
-    }
-    if names.len() - start < len {
-        return false;
-    }
-    true
-}
-
-// The name of the first record, which has one that fits.
-pub fn first_name<'a>(sheet: &[u8], names: &'a [u8]) -> &'a [u8]
-    requires { is_named (record_of sheet.now names.now 0) ≡ true }
-    ensures { result.now ≡ name_in names.now (record_bytes sheet.now 0) }
-{
-    let start = sheet::name_offset(sheet, 0);
-    let end = start + sheet::name_len(sheet, 0);
-    &names[start..end]
+    names.get(start..)?.get(..len)
 }
 
 // The name of record `i`, which has one that fits.
+#[tactic(auto, using(crate::proofs::Numbers::named_by, crate::proofs::Numbers::name_by))]
 pub fn name_at<'a>(sheet: &[u8], names: &'a [u8], i: usize) -> &'a [u8]
     requires { (i < length sheet.now / 32) × (is_named (record_of sheet.now names.now i) ≡ true) }
     ensures { result.now ≡ name_in names.now (record_bytes sheet.now i) }
 {
-    let at = i * Sheet::RECORD;
-    let end = at + Sheet::RECORD;
-    first_name(&sheet[at..end], names)
+    let own = own_bytes(sheet, i);
+    let start = sheet::name_offset(own, 0);
+    let end = start + sheet::name_len(own, 0);
+    &names[start..end]
+}
+
+// A record that has a name that fits, and what is read of it.
+#[derive(Drop)]
+pub struct Named<'a> {
+    pub sheet: &'a [u8],
+    pub names: &'a [u8],
+    pub index: usize,
+    pub own: &'a [u8],
+    pub kind: u8,
+    pub name: &'a [u8],
+    ghost known_record: { index < known_count sheet.now },
+    ghost is_named: { is_named (record_of sheet.now names.now index) ≡ true },
+    ghost own_is: { own.now ≡ record_bytes sheet.now index },
+    ghost kind_is: { kind ≡ kind_in (record_bytes sheet.now index) },
+    ghost name_is: { name.now ≡ name_in names.now (record_bytes sheet.now index) },
+}
+
+impl<'a> Named<'a> {
+    // What is read of record `i`, if it has a name and the name fits.
+    #[tactic(auto, using(crate::proofs::Numbers::again))]
+    pub fn read(sheet: &'a [u8], names: &'a [u8], i: usize) -> Option<Self>
+        requires { i < known_count sheet.now }
+        ensures { MatchOption result (is_named (record_of sheet.now names.now i) ≡ false) (λ named. (named.sheet.now ≡ sheet.now) × (named.names.now ≡ names.now) × (named.index ≡ i)) }
+    {
+        let own = own_bytes(sheet, i);
+        let name = own_name(own, names)?;
+        Some(Named {
+            sheet,
+            names,
+            index: i,
+            own,
+            kind: sheet::kind(own, 0),
+            name,
+        })
+    }
 }

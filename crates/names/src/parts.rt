@@ -3,53 +3,51 @@ ghost use Rattle.std.specs.Prelude.{◌≡◌, true, ◌++◌, ◌≤◌, length
 ghost use Rattle.names.specs.Notes.{Read, Silent};
 ghost use Rattle.names.specs.Parts.{known_count, ids, declarations, imported, targets, codes, totals};
 
-use crate::codes::BLOCKS;
+use crate::codes::Spelling;
+use crate::count::count;
+use crate::ids::Chains;
+use crate::layout;
 use crate::notes::spread;
 use crate::records::read;
-use crate::{count, layout};
 
 // Fills the ids and the codes, and notes what the records say of their names.
-pub fn read_records(sheet: &[u8], names: &[u8], table: &mut [u16])
-    requires { (length table.old ≡ 5122) × (table.old ≡ replicate 5122 0) }
+#[tactic(auto, using(crate::proofs::Reading::reads))]
+pub fn read_records(sheet: &[u8], names: &[u8], table: &mut [u16; layout::SIZE])
+    requires { table.old ≡ replicate 5122 0 }
     ensures { Read sheet.now names.now table.new (known_count sheet.now) (known_count sheet.now) }
 {
-    let mut heads: [u16; layout::PART] = [0; layout::PART];
-    let mut links: [u16; layout::PART] = [0; layout::PART];
-    let mut blocks: [u8; BLOCKS] = [0; BLOCKS];
-    let n = count::count(sheet);
+    let mut chains = Chains {
+        heads: [0; layout::PART],
+        links: [0; layout::PART],
+    };
     let marks = sheet::name_marks();
-    for i in 0..n {
-        read(
-            sheet,
-            names,
-            &marks,
-            &mut blocks,
-            &mut heads,
-            &mut links,
-            table,
-            i,
-        );
+    let mut spelling = Spelling::new(&marks, names);
+    for i in 0..count(sheet) {
+        read(sheet, &mut spelling, &mut chains, table, i);
     }
 }
 
 // Whether nothing is noted at the first `n` ids.
-fn is_silent(table: &[u16], n: usize) -> bool
-    requires { (length table.now ≡ 5122) × (n ≤ 1024) }
+#[tactic(auto, using(crate::proofs::Spreading::silences))]
+fn is_silent(table: &[u16; layout::SIZE], n: usize) -> bool
+    requires { n ≤ 1024 }
     ensures { result ≡ true → Silent table.now n }
 {
+    // No number ends the loop early, so that many are looked at at once.
     let mut noted = false;
     for k in 0..n {
-        noted = noted | (table[layout::DECLARATIONS + k] != 0) | (table[layout::IMPORTED + k] != 0);
+        noted |= (table[layout::DECLARATIONS + k] != 0) | (table[layout::IMPORTED + k] != 0);
     }
     !noted
 }
 
 // Fills the declarations, the imports and the targets.
-pub fn spread_notes(sheet: &[u8], names: &[u8], table: &mut [u16])
-    requires { (length table.old ≡ 5122) × Read sheet.now names.now table.old (known_count sheet.now) (known_count sheet.now) }
+#[tactic(auto, using(crate::proofs::Spreading::spreads))]
+pub fn spread_notes(sheet: &[u8], names: &[u8], table: &mut [u16; layout::SIZE])
+    requires { Read sheet.now names.now table.old (known_count sheet.now) (known_count sheet.now) }
     ensures { take 5120 table.new ≡ (((ids sheet.now names.now ++ declarations sheet.now names.now) ++ imported sheet.now names.now) ++ targets sheet.now names.now) ++ codes sheet.now names.now }
 {
-    let n = count::count(sheet);
+    let n = count(sheet);
     if is_silent(table, n) {
         return;
     }
@@ -59,18 +57,18 @@ pub fn spread_notes(sheet: &[u8], names: &[u8], table: &mut [u16])
 }
 
 // Fills whether there is a wildcard, and how many declarations there are.
-pub fn fill_totals(sheet: &[u8], names: &[u8], table: &mut [u16])
-    requires { length table.old ≡ 5122 }
+#[tactic(auto, using(crate::proofs::Found::counted_none))]
+pub fn fill_totals(sheet: &[u8], names: &[u8], table: &mut [u16; layout::SIZE])
     ensures { table.new ≡ take 5120 table.old ++ totals sheet.now names.now }
 {
-    let n = count::count(sheet);
+    let n = count(sheet);
     let mut wildcard = false;
     let mut found: u16 = 0;
     for j in 0..n {
         let kind = sheet::kind(sheet, j);
-        wildcard = wildcard | (kind == sheet::kinds::WILDCARD);
-        found += count::one_if(kind == sheet::kinds::DECLARATION);
+        wildcard |= kind == sheet::kinds::WILDCARD;
+        found += u16::from(kind == sheet::kinds::DECLARATION);
     }
-    table[layout::WILDCARDS] = count::one_if(wildcard);
+    table[layout::WILDCARDS] = u16::from(wildcard);
     table[layout::DECLARED] = found;
 }
