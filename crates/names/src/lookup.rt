@@ -1,55 +1,61 @@
 // What the table of names says of a record's name.
-ghost use Rattle.std.specs.Prelude.{◌≡◌, not, ◌*◌, ◌+◌, ◌<◌, get_or, eqb};
+ghost use Rattle.std.specs.Prelude.{◌≡◌, not, ◌+◌, ◌≤◌, get_or, eqb, ltb};
+ghost use Rattle.rules.specs.Words.{number_if};
+ghost use Rattle.names.specs.NameTable.{max_records};
 ghost use Rattle.names.specs.View.{entry_of, id_part, declaration_part, import_part, target_part, code_part, wildcard_of, declarations_of};
 
 use crate::layout;
 
-// The number for record `i` in a part of the table.
-#[tactic(auto, unfolding(crate::specs::View::entry_of))]
-fn entry(table: &[u16; layout::SIZE], part: usize, i: usize) -> u16
-    requires { part < 5 }
-    ensures { result ≡ entry_of part table.now i }
+// The number for record `i` in the part of the table that begins at `start`; 0 past the last record that the table has.
+fn entry(table: &[u16; layout::SIZE], start: usize, i: usize) -> u16
+    requires { start ≤ 4096 }
+    ensures { result ≡ number_if (ltb i max_records) (get_or table.now (start + i) 0) }
 {
     if i < layout::PART {
-        table[part * layout::PART + i]
+        table[start + i]
     } else {
         0
     }
 }
 
 // The first record with the same name.
+#[tactic(auto, unfolding(crate::specs::View::entry_of))]
 pub fn id(table: &[u16; layout::SIZE], i: usize) -> u16
     ensures { result ≡ entry_of id_part table.now i }
 {
-    entry(table, 0, i)
+    entry(table, layout::IDS, i)
 }
 
 // The place of the first declaration of the name.
+#[tactic(auto, unfolding(crate::specs::View::entry_of))]
 pub fn declaration(table: &[u16; layout::SIZE], i: usize) -> u16
     ensures { result ≡ entry_of declaration_part table.now i }
 {
-    entry(table, 1, i)
+    entry(table, layout::DECLARATIONS, i)
 }
 
 // Whether the name is imported.
+#[tactic(auto, unfolding(crate::specs::View::entry_of))]
 pub fn is_imported(table: &[u16; layout::SIZE], i: usize) -> bool
     ensures { result ≡ not (eqb (entry_of import_part table.now i) 0) }
 {
-    entry(table, 2, i) != 0
+    entry(table, layout::IMPORTED, i) != 0
 }
 
 // The place of the type that the name is declared with.
+#[tactic(auto, unfolding(crate::specs::View::entry_of))]
 pub fn target(table: &[u16; layout::SIZE], i: usize) -> u16
     ensures { result ≡ entry_of target_part table.now i }
 {
-    entry(table, 3, i)
+    entry(table, layout::TARGETS, i)
 }
 
 // The name's code.
+#[tactic(auto, unfolding(crate::specs::View::entry_of))]
 pub fn code(table: &[u16; layout::SIZE], i: usize) -> u16
     ensures { result ≡ entry_of code_part table.now i }
 {
-    entry(table, 4, i)
+    entry(table, layout::CODES, i)
 }
 
 // Whether the sheet has a wildcard.
