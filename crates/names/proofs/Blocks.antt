@@ -6,10 +6,10 @@ use mathlib.Core.Bool.{Bool, true, false, not, ◌&&◌, ◌||◌}
 use mathlib.Core.List.{List, [], ◌∷◌, ◌++◌}
 use native.Mathlib.Decide.{dec_lt}
 use native.Mathlib.Omega.{arith}
-use lib.Dec.{eqb, ltb}
+use lib.Dec.{eqb}
 use lib.ListN.{length, get_or, set, take, drop, replicate, length-drop}
 use lib.Seq.{take-add, take_all, drop-drop, get_or-set_other}
-use borrow.Author.Tests.{eqb-true, eqb-false, ltb-true, ltb-false}
+use borrow.Author.Tests.{eqb-true, eqb-false}
 use Rattle.std.specs.Prelude.{Option, Some, None}
 use Rattle.rules.specs.Words.{any_of}
 use Rattle.rules.proofs.Lists.{any_of-append}
@@ -49,9 +49,6 @@ whole-block text at l = go (dec_lt (length text) (at + 64))
         take_all (min (length text) (at + 64) - at) (drop at text) (omega arith) ∙ sym (take_all 64 (drop at text) (omega arith))
 
 module _ (marks : List ℕ) where
-  pub same-bytes-continue : (xs ys : List ℕ) (all : Bool) → xs ≡ ys → all ≡ continue_by marks xs → all ≡ continue_by marks ys
-  same-bytes-continue xs ys all e h = rw e at h
-
   joined : (xs ys : List ℕ) → continue_by marks (xs ++ ys) ≡ (continue_by marks xs && continue_by marks ys)
   unfolding continue_by
   joined xs ys = rw (any_of-append (λ b. not (continues_by marks b)) xs ys, neither-of)
@@ -77,9 +74,6 @@ module _ (marks : List ℕ) where
               let here : j ≡ k = eqb-true j k e in
               rw here (sym looked ∙ stored blocks k good (rw here at t))
           decided false e t = judged j (rw (get_or-set_other blocks k j (Some good) None (eqb-false j k e)) at t)
-
-    pub known_good : (blocks : List (Option Bool)) (k : ℕ) → Judged marks text blocks → get_or blocks k None ≡ Some true → continue_by marks (take 64 (drop (k * 64) text)) ≡ true
-    known_good blocks k judged e = judged k e
 
     -- a piece of a block that goes on
     piece-told : (k a e : ℕ) → continue_by marks (take 64 (drop (k * 64) text)) ≡ true → k * 64 ≤ a → a ≤ e → e ≤ k * 64 + 64 → continue_by marks (take (e - a) (drop a text)) ≡ true

@@ -1,10 +1,8 @@
 -- An entry of the table is the number at its place, and 0 past the last record.
 use Prim.Native.Nat.{ℕ, ◌+◌, ◌*◌, ◌<◌, ◌≤◌}
-use mathlib.Core.Path.{◌≡◌, ap}
-use mathlib.Core.Bool.{not}
+use mathlib.Core.Path.{◌≡◌}
 use mathlib.Core.List.{List}
 use lib.ListN.{get_or}
-use lib.Dec.{eqb}
 use borrow.Author.Tests.{lt-ltb, le-ltb}
 use Rattle.names.specs.View.{entry_of}
 
@@ -15,6 +13,3 @@ entry_in part i table h = rw (lt-ltb i 1024 h)
 pub entry-out : (part i : ℕ) (table : List ℕ) → 1024 ≤ i → 0 ≡ entry_of part table i
 unfolding entry_of
 entry-out part i table h = rw (le-ltb i 1024 h)
-
-pub not-zero : (x y : ℕ) → x ≡ y → not (eqb x 0) ≡ not (eqb y 0)
-not-zero x y e = ap (λ (n : ℕ). not (eqb n 0)) e

@@ -5,7 +5,6 @@ pub mod Found
 pub mod Columns
 pub mod Blocks
 pub mod Stored
-pub mod Cleared
 pub mod WordCodes
 pub mod Numbers
 pub mod Targets

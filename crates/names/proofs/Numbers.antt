@@ -1,14 +1,12 @@
 -- What code reads and finds of a record is what the definitions say of it: each law takes what was read and what the tests said at one
 -- `return`.
-use Prim.Native.Nat.{ℕ, ◌+◌, ◌-◌, ◌*◌, ◌/◌, ◌≤◌, ◌<◌}
+use Prim.Native.Nat.{ℕ, ◌-◌, ◌*◌, ◌/◌, ◌≤◌, ◌<◌}
 use mathlib.Core.Path.{◌≡◌, refl, ◌∙◌, sym}
 use mathlib.Core.Bool.{Bool, true, false, ◌&&◌, true≢false, not, ◌||◌}
 use mathlib.Core.List.{List}
 use native.Mathlib.Omega.{arith}
 use lib.ListN.{length, get_or, take, drop, length-drop}
 use lib.Seq.{take-take, take_all}
-use lib.Dec.{leb}
-use borrow.Author.Tests.{leb-true, le-leb, lt-leb}
 use Rattle.rules.proofs.Lists.{and_left, and_right}
 use Rattle.rules.specs.declared.span.Span.{Span}
 use Rattle.rules.specs.Kind
@@ -18,16 +16,6 @@ use Rattle.names.specs.NameTable.{column, is_named, is_keyed, same_name}
 use Rattle.names.specs.Parts.{known, known_count, record_of}
 use Rattle.names.proofs.Known.{length-known, known_at, known_bounds}
 use Rattle.names.proofs.Columns.{column-at}
-
--- the number of records
-module _ (sheet : List ℕ) (n : ℕ) (h : n ≡ length sheet / 32) where
-  pub count-few : n < 1024 → n ≡ known_count sheet
-  unfolding known_count
-  count-few l = omega arith
-
-  pub count-many : 1024 ≤ n → 1024 ≡ known_count sheet
-  unfolding known_count
-  count-many l = omega arith
 
 pub whole-known : (sheet : List ℕ) (i n : ℕ) → n ≡ known_count sheet → i < n → i < length sheet / 32
 unfolding known_count
@@ -78,65 +66,6 @@ module _ (sheet names : List ℕ) (i n : ℕ) (hn : n ≡ known_count sheet) (f 
   part_at v l h e =
       let d : Rec (List ℕ) Span = record_of sheet names i in
       rw (column-at f (known sheet names) i d (omega arith) (rw (length-known sheet names, ← hn) h), known_at sheet names i d (rw (← hn) h)) e
-
-module _ (sheet names : List ℕ) (i : ℕ) (has : Bool) (h : has ≡ is_named_in (record_bytes sheet i)) where
-  pub named_none : has ≡ false → false ≡ is_named (record_of sheet names i)
-  unfolding record_of decode
-  named_none f = rw (sym h ∙ f)
-
-  module _ (t : has ≡ true) (start len : ℕ) (hs : start ≡ name_offset (record_bytes sheet i)) (hl : len ≡ name_length (record_bytes sheet i)) where
-    pub named-unfit : length names < start + len → false ≡ is_named (record_of sheet names i)
-    unfolding record_of decode fits_in
-    named-unfit l =
-        let out : leb (start + len) (length names) ≡ false = lt-leb (start + len) (length names) l in
-        rw (sym h ∙ t, ← hs, ← hl, out)
-
-    pub named-fit : start + len ≤ length names → true ≡ is_named (record_of sheet names i)
-    unfolding record_of decode fits_in
-    named-fit l =
-        let within : leb (start + len) (length names) ≡ true = le-leb (start + len) (length names) l in
-        rw (sym h ∙ t, ← hs, ← hl, within)
-
--- the name of a record that has one that fits
-module _ (sheet names : List ℕ) (i : ℕ) (named : is_named (record_of sheet names i) ≡ true) (start len : ℕ)
-    (hs : start ≡ name_offset (record_bytes sheet i)) (hl : len ≡ name_length (record_bytes sheet i)) where
-  has : is_named_in (record_bytes sheet i) ≡ true
-  unfolding record_of decode
-  has = and_left (is_named_in (record_bytes sheet i)) (fits_in names (record_bytes sheet i)) named
-
-  fit : leb (start + len) (length names) ≡ true
-  unfolding record_of decode fits_in
-  fit =
-      let fits = and_right (is_named_in (record_bytes sheet i)) (fits_in names (record_bytes sheet i)) named in
-      rw (hs, hl) (rw has at fits)
-
-  pub name-fits : start + len ≤ length names
-  name-fits = leb-true (start + len) (length names) fit
-
-  pub name-read : take (start + len - start) (drop start names) ≡ name_in names (record_bytes sheet i)
-  unfolding name_in
-  name-read =
-      let size : start + len - start ≡ len = omega arith in
-      rw (size, has, ← hs, ← hl, fit)
-
--- a record is the first of its own bytes
-module _ (sheet names own : List ℕ) (i : ℕ) (e : own ≡ record_bytes sheet i) where
-  own-bytes : record_bytes own 0 ≡ record_bytes sheet i
-  own-bytes = rw (e, take-take 32 32 (drop (32 * i) sheet) (omega arith))
-
-  pub own-named : (named : Bool) → named ≡ is_named (record_of own names 0) → named ≡ is_named (record_of sheet names i)
-  unfolding record_of
-  own-named named h = rw own-bytes at h
-
-  pub named-own : is_named (record_of sheet names i) ≡ true → is_named (record_of own names 0) ≡ true
-  unfolding record_of
-  named-own h = rw own-bytes h
-
-  pub own_name : (name : List ℕ) → name ≡ name_in names (record_bytes own 0) → name ≡ name_in names (record_bytes sheet i)
-  own_name name h = rw own-bytes at h
-
-  pub own-kind : (kind : ℕ) → kind ≡ kind_in (record_bytes own 0) → kind ≡ kind_in (record_bytes sheet i)
-  own-kind kind h = rw own-bytes at h
 
 -- a record has a name if its kind says so and the name's part ends within the names text, and the name is that part
 module _ (sheet names : List ℕ) (i : ℕ) where

@@ -5,7 +5,7 @@ use native.Mathlib.Numerals.{add-one}
 use native.Mathlib.Omega.{arith}
 use mathlib.Core.Path.{◌≡◌, refl, ◌∙◌, sym, ap}
 use mathlib.Core.List.{List, [], ◌∷◌, ◌++◌}
-use lib.ListN.{length, get_or, take, drop, set, length-set, length-take, length-drop, get_or-eq_default}
+use lib.ListN.{length, get_or, take, drop, set, length-take, length-drop, get_or-eq_default}
 use lib.Seq.{get_or-take, get_or-drop, get_or-set_same, get_or-set_other, take-add, take-nil, ext_get_or}
 use Rattle.names.specs.Notes.{Part}
 
@@ -80,11 +80,3 @@ part-whole p part t l room has = take-add p 1024 t ∙ ap (take p t ++◌) (ext_
     entries i h =
         let inside : i < 1024 = rw size at h in
         get_or-take 1024 (drop p t) i 0 inside ∙ get_or-drop p t i 0 ∙ has.at i inside
-
--- the parts have room for their numbers, whatever is stored
-module _ (t : List ℕ) (l : length t ≡ 5122) (p i : ℕ) (inside : i < 1024) (room : p + 1024 ≤ 5122) where
-  pub room_after : (q v : ℕ) → p + i < length (set t q v)
-  room_after q v = rw length-set (omega arith)
-
-  pub room-after-two : (q v r w : ℕ) → p + i < length (set (set t q v) r w)
-  room-after-two q v r w = rw (length-set, length-set) (omega arith)
