@@ -133,7 +133,7 @@ module _ (marks : List ℕ) where
         nothing (suc m) (suc j) = nothing m j
 
 -- what decides whether a part of a text goes on, block by block
-pub ruleset walks = (walk_starts, walk_ends, walk_stops, walk_on, walk_on_block)
+pub ruleset walks = (walk_starts, walk_ends, walk_stops)
 
 -- what a look at a name's first byte, and at all its bytes, tells of it
 pub spelled_none : (name : List ℕ) → length name ≡ 0 → false ≡ valid_field_name name

@@ -235,4 +235,4 @@ module _ (sheet names : List ℕ) where
         chained_more heads links i chained b hb (omega arith) (record { known-record = h; named = named; bucket = sym eb; first = new })
 
 -- what decides a walk along a chain
-pub ruleset walks = (walk_start, walk-named, walk-ended, walk-found, walk-on, walk-less, bucket-of, known_bounds)
+pub ruleset walks = (walk_start, walk-ended, walk-found, walk-less, bucket-of, known_bounds)

@@ -205,4 +205,4 @@ module _ (sheet names : List ℕ) (m : ℕ) (h : m < known_count sheet) where
         (kind-is-not Kind.Declaration (λ other. omega arith))
 
 -- what a record says of its name
-pub ruleset notes = (says_nothing, says_declaration, says_import, known_bounds)
+pub ruleset notes = (says_nothing, known_bounds)

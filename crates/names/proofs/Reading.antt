@@ -13,8 +13,7 @@ use Rattle.names.specs.Notes.{declaration_note, import_note, Part, Read}
 use Rattle.names.specs.Parts.{known, known_count, record_of, ids, codes}
 use Rattle.names.proofs.Columns.{zeros-at}
 use Rattle.names.proofs.Firsts.{id-unnamed}
-use Rattle.names.proofs.Known.{known-few, known_bounds}
-use Rattle.names.proofs.Leads.{chained-none, added-unnamed}
+use Rattle.names.proofs.Known.{known-few}
 use Rattle.names.proofs.Noting.{unnamed-silent, noted-none}
 use Rattle.names.proofs.Numbers.{part_at, unnamed-keyed}
 use Rattle.names.proofs.Stored.{part_same, part-set, part-ahead, part-behind, taken_here, taken_next, taken-zero}
@@ -106,8 +105,3 @@ pub read_all :
 read_all sheet names t i n e a b before =
     let last : i ≡ known_count sheet = omega arith in
     rw last at before
-
-pub ruleset readings = (read-unnamed, read_named, added-unnamed, unnamed-keyed, known_bounds)
-
--- what reads the records
-pub ruleset reads = (read_none, read_all, chained-none, known_bounds)

@@ -362,4 +362,4 @@ spread-all sheet names t i n e a b before =
 -- what decides whether nothing is noted, and what spreads the notes
 pub ruleset silences = (silent-none, silent-more, silent-whole)
 
-pub ruleset spreads = (own-small, spread-undeclared, spread-declared, spread_none, none-spread, spread-all, known_bounds)
+pub ruleset spreads = (own-small, none-spread, spread-all, known_bounds)

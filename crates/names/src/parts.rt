@@ -11,7 +11,7 @@ use crate::notes::spread;
 use crate::records::read;
 
 // Fills the ids and the codes, and notes what the records say of their names.
-#[tactic(auto, using(crate::proofs::Reading::reads))]
+#[tactic(auto, using(crate::proofs::Reading::read_all))]
 pub fn read_records(sheet: &[u8], names: &[u8], table: &mut [u16; layout::SIZE])
     requires { table.old ≡ replicate 5122 0 }
     ensures { Read sheet.now names.now table.new (known_count sheet.now) (known_count sheet.now) }

@@ -34,7 +34,7 @@ fn next_code(named: &Named, spelling: &mut Spelling) -> u16
 }
 
 // Stores the id and the code of record `i`, and notes what it says of its name. A record without a fitting name is its own, and has code 0.
-#[tactic(auto, using(crate::proofs::Reading::readings))]
+#[tactic(auto, using(crate::proofs::Known::known_bounds))]
 pub fn read(
     sheet: &[u8],
     spelling: &mut Spelling,
