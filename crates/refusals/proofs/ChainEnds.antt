@@ -2,7 +2,9 @@
 -- that leads from a type on the way to the end at once keeps the ends of all chains.
 use Prim.Native.Nat.{ℕ, suc, ◌+◌, ◌-◌, ◌<◌, ◌≤◌}
 use native.Mathlib.Omega.{arith}
-use mathlib.Core.Path.{◌≡◌, refl, sym, ap, ◌∙◌}
+use native.Mathlib.Numerals.{add-one}
+use mathlib.Core.Path.{◌≡◌, refl, sym, ap, ◌∙◌, subst}
+use Rattle.std.specs.Prelude as std
 use mathlib.Core.Bool.{Bool, true, false, ◌&&◌}
 use mathlib.Core.List.{List, [], ◌∷◌}
 use mathlib.Core.Option.{some, none}
@@ -15,9 +17,8 @@ use Rattle.names.specs.View.{view_at, view_of, declarations_of, context_by}
 use Rattle.names.specs.SameEnds.{leads_on, SameEnds, Lasting, with_target}
 use Rattle.names.proofs.Shortened.{chain-step, none-there, same-itself, same-through}
 use Rattle.names.proofs.Targeted.{target-same, target-lasting, rest_end}
-use Rattle.refusals.specs.Turned.{placed}
-use Rattle.refusals.specs.Ends.{EndsAt, EndPlace, Kept}
-use Rattle.refusals.proofs.ChainWalk.{next-none, next-some}
+use Rattle.refusals.specs.Turned.{record_of}
+use Rattle.refusals.specs.Ends.{EndsAt, EndFound, Kept}
 
 module _ (table sheet : List ℕ) where
   abbrev ctx : ValidationContext ℕ Span
@@ -28,80 +29,72 @@ module _ (table sheet : List ℕ) where
   Walk t left at =
       chain_end (context_by table sheet) (declarations_of table) (view_at sheet t) ≡ chain_end (context_by table sheet) left (view_at sheet at)
 
-  pub walk-starts : (t left : ℕ) → left ≡ declarations_of table → Walk t left t
-  walk-starts t left e = ap (λ n. chain_end ctx n (view_at sheet t)) (sym e)
+  pub walk_starts : (t left : ℕ) → left ≡ declarations_of table → Walk t left t
+  walk_starts t left e = ap (λ n. chain_end ctx n (view_at sheet t)) (sym e)
 
-  module _ (t left at next : ℕ) (w : Walk t left at) (hb : placed sheet next ≡ behind (context_by table sheet) (view_at sheet at)) where
-    pub walk_ends : (place : ℕ) → place ≡ at + 1 → next ≡ 0 → EndPlace table sheet t place
-    walk_ends place e z =
-        let stop : behind ctx (view_at sheet at) ≡ none = sym (next-none table sheet next _ hb z) in
-        let back : place - 1 ≡ at = omega arith in
-        record {
-          never = λ p. absurd (omega arith);
-          ends = λ n. rw back (record { end = w ∙ chain-stays ctx left (view_at sheet at) stop; over = stop });
-        }
+  module _ (t left at : ℕ) (w : Walk t left at) (o : std.Option ℕ) (hb : record_of sheet o ≡ behind (context_by table sheet) (view_at sheet at)) where
+    pub walk_ends : o ≡ std.None → EndsAt table sheet t at
+    walk_ends e =
+        let stop : behind ctx (view_at sheet at) ≡ none = sym (ap (record_of sheet) (sym e) ∙ hb) in
+        record { end = w ∙ chain-stays ctx left (view_at sheet at) stop; over = stop }
 
-    pub walk-again : (next ≡ 0 → ⊥) → 0 < left → (at' left' : ℕ) → at' ≡ next - 1 → left' ≡ left - 1 → Walk t left' at'
-    walk-again n more at' left' e l =
-        let go_on : behind ctx (view_at sheet at) ≡ some (view_at sheet at') = sym (rw (← e) at (next-some table sheet next _ hb n)) in
-        let less : left ≡ suc left' = omega arith in
-        w ∙ ap (λ m. chain_end ctx m (view_at sheet at)) less ∙ chain-step ctx left' (view_at sheet at) (view_at sheet at') go_on
+    module _ (next : ℕ) (e : o ≡ std.Some next) where
+      go_on : behind ctx (view_at sheet at) ≡ some (view_at sheet next)
+      go_on = sym (ap (record_of sheet) (sym e) ∙ hb)
 
-    pub walk-never : (next ≡ 0 → ⊥) → left ≤ 0 → EndPlace table sheet t 0
-    unfolding context_by chain_end
-    walk-never n h =
-        let none_left : left ≡ 0 = omega arith in
-        record {
-          never = λ z.
-              ap (leads_on ctx) (w ∙ ap (λ m. chain_end ctx m (view_at sheet at)) none_left)
-              ∙ sym (ap is_some (next-some table sheet next _ hb n));
-          ends = λ m. absurd (m refl);
-        }
+      pub walk_again : 0 < left → (left' : ℕ) → left' ≡ left - 1 → Walk t left' next
+      walk_again more left' l =
+          let less : left ≡ suc left' = omega arith in
+          w ∙ ap (λ m. chain_end ctx m (view_at sheet at)) less ∙ chain-step ctx left' (view_at sheet at) (view_at sheet next) go_on
 
-  -- a chain that ends
-  pub end-found : (t place : ℕ) → EndPlace table sheet t place → (place ≡ 0 → ⊥) → EndsAt table sheet t (place - 1)
-  end-found t place found = found.ends
+      pub walk_never : left ≤ 0 → never_ends ctx (view_at sheet t) ≡ true
+      unfolding context_by chain_end
+      walk_never h =
+          let none_left : left ≡ 0 = omega arith in
+          ap (leads_on ctx) (w ∙ ap (λ m. chain_end ctx m (view_at sheet at)) none_left) ∙ ap is_some go_on
 
-  pub ended : (t place : ℕ) → EndPlace table sheet t place → (place ≡ 0 → ⊥) → false ≡ never_ends ctx (view_at sheet t)
-  unfolding context_by
-  ended t place found n = let at = found.ends n in sym (ap (leads_on ctx) at.end ∙ ap is_some at.over)
+  -- a chain that ends, and one that does not
+  module _ (t : ℕ) (o : std.Option ℕ) (found : EndFound table sheet t o) where
+    pub end_found : (e : ℕ) → o ≡ std.Some e → EndsAt table sheet t e
+    end_found e q = subst (EndFound table sheet t) q found
 
-  pub endless-told : (t place : ℕ) → EndPlace table sheet t place → place ≡ 0 → true ≡ never_ends ctx (view_at sheet t)
-  endless-told t place found z = sym (found.never z)
+    pub ended : (e : ℕ) → o ≡ std.Some e → false ≡ never_ends ctx (view_at sheet t)
+    unfolding context_by
+    ended e q = let at = end_found e q in sym (ap (leads_on ctx) at.end ∙ ap is_some at.over)
+
+    pub endless_told : o ≡ std.None → true ≡ never_ends ctx (view_at sheet t)
+    endless_told q = sym (subst (EndFound table sheet t) q found)
 
 -- a table that is not changed
-pub kept-itself : (sheet table : List ℕ) → Lasting (context_by table sheet) → Kept sheet table table
-kept-itself sheet table lasts = record { same = same-itself (context_by table sheet); lasts = lasts }
+pub kept_itself : (sheet table : List ℕ) → Lasting (context_by table sheet) → Kept sheet table table
+kept_itself sheet table lasts = record { same = same-itself (context_by table sheet); lasts = lasts }
 
 -- a table that leads to the end from one more type
-module _ (sheet before table : List ℕ) (at end next : ℕ) (kept : Kept sheet before table) (ends : EndsAt table sheet at (end - 1)) (some_end : 1 ≤ end)
-    (hb : placed sheet next ≡ behind (context_by table sheet) (view_at sheet at)) (n : next ≡ 0 → ⊥) where
-  step : behind (context_by table sheet) (view_at sheet at) ≡ some (view_at sheet (next - 1))
-  step = sym (next-some table sheet next _ hb n)
+module _ (sheet before table : List ℕ) (at end next : ℕ) (kept : Kept sheet before table) (ends : EndsAt table sheet at end) (o : std.Option ℕ)
+    (hb : record_of sheet o ≡ behind (context_by table sheet) (view_at sheet at)) (e : o ≡ std.Some next) where
+  step : behind (context_by table sheet) (view_at sheet at) ≡ some (view_at sheet next)
+  step = sym (ap (record_of sheet) (sym e) ∙ hb)
 
-  whole : suc (end - 1) ≡ end
-  whole = omega arith
+  same-now : SameEnds (context_by table sheet) (context_by (with_target table at (end + 1)) sheet)
+  same-now = rw add-one (target-same table sheet at end (ap is_some step) ends.end ends.over kept.lasts)
 
-  same-now : SameEnds (context_by table sheet) (context_by (with_target table at end) sheet)
-  same-now = rw whole at (target-same table sheet at (end - 1) (ap is_some step) ends.end ends.over kept.lasts)
-
-  pub shortened : (after : List ℕ) → after ≡ with_target table at end → Kept sheet before after
-  shortened after e =
-      rw e
+  pub shortened : (after : List ℕ) → after ≡ with_target table at (end + 1) → Kept sheet before after
+  shortened after a =
+      rw a
       (record {
         same = same-through _ _ _ kept.same same-now;
-        lasts = rw whole at (target-lasting table sheet at (end - 1) (ap is_some step) ends.end ends.over kept.lasts);
+        lasts = rw add-one (target-lasting table sheet at end (ap is_some step) ends.end ends.over kept.lasts);
       })
 
-  pub shortened-again : (after : List ℕ) (at' : ℕ) → after ≡ with_target table at end → at' ≡ next - 1 → EndsAt after sheet at' (end - 1)
+  pub shortened_again : (after : List ℕ) → after ≡ with_target table at (end + 1) → EndsAt after sheet next end
   unfolding context_by
-  shortened-again after at' e f =
-      rw (e, f)
+  shortened_again after a =
+      rw a
       (record {
         end =
-            sym (same-now.ends (view_at sheet (next - 1)))
-            ∙ rest_end table sheet at (end - 1) (ap is_some step) ends.end ends.over (view_at sheet (next - 1)) step;
-        over = none-there (context_by (with_target table at end) sheet) _ (sym (same-now.leads (view_at sheet (end - 1))) ∙ ap is_some ends.over);
+            sym (same-now.ends (view_at sheet next))
+            ∙ rw add-one (rest_end table sheet at end (ap is_some step) ends.end ends.over (view_at sheet next) step);
+        over = none-there (context_by (with_target table at (end + 1)) sheet) _ (sym (same-now.leads (view_at sheet end)) ∙ ap is_some ends.over);
       })
 
 -- by a table that was kept, the same chains never end
@@ -109,12 +102,12 @@ same-nowhere : (a b : ValidationContext ℕ Span) (rs : List (Rec ℕ Span)) →
 same-nowhere a b [] same = refl
 same-nowhere a b (t ∷ rs) same = sym (ap (leads_on a) (same.ends t) ∙ same.leads _)
 
-pub kept-nowhere : (sheet before table : List ℕ) (i n : ℕ) (b : Bool) → Kept sheet before table
+pub kept_nowhere : (sheet before table : List ℕ) (i n : ℕ) (b : Bool) → Kept sheet before table
     → b ≡ (is_of 1 4 (view_at sheet i) && leads_nowhere (context_by table sheet) (view_of sheet (i + 1) n))
     → b ≡ (is_of 1 4 (view_at sheet i) && leads_nowhere (context_by before sheet) (view_of sheet (i + 1) n))
-kept-nowhere sheet before table i n b kept e =
+kept_nowhere sheet before table i n b kept e =
     e ∙ ap (λ x. is_of 1 4 (view_at sheet i) && x) (same-nowhere _ _ (view_of sheet (i + 1) n) kept.same)
 
 -- one more chain
-pub kept-through : (sheet a b c : List ℕ) → Kept sheet a b → Kept sheet b c → Kept sheet a c
-kept-through sheet a b c x y = record { same = same-through _ _ _ x.same y.same; lasts = y.lasts }
+pub kept_through : (sheet a b c : List ℕ) → Kept sheet a b → Kept sheet b c → Kept sheet a c
+kept_through sheet a b c x y = record { same = same-through _ _ _ x.same y.same; lasts = y.lasts }

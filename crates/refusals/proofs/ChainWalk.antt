@@ -1,6 +1,6 @@
 -- Row 9 takes the newtypes in turn, and asks the table for the type behind a type.
 use Prim.Native.Nat.{ℕ, zero, suc, ◌+◌, ◌-◌, ◌/◌, ◌<◌, ◌≤◌}
-use native.Mathlib.Decide.{dec_lt, ℕ_discrete}
+use native.Mathlib.Decide.{dec_lt}
 use native.Mathlib.Omega.{arith}
 use native.Mathlib.Numerals.{add-one}
 use mathlib.Core.Path.{◌≡◌, refl, sym, ap, ◌∙◌}
@@ -11,12 +11,12 @@ use lib.ListN.{length}
 use lib.Dec.{eqb}
 use borrow.Author.Tests.{ne_eqb, eq-eqb}
 use Rattle.rules.specs.declared.span.Span.{Span}
-use Rattle.rules.specs.Record.{Rec, is_of, record_bytes, kind_in, sub_in}
+use Rattle.rules.specs.Record.{Rec, is_of, record_bytes, kind_in}
 use Rattle.rules.specs.Context.{Declared, ValidationContext, behind, never_ends}
 use Rattle.rules.specs.Refusals.{Fault, leads_nowhere, endless_chain}
 use Rattle.names.specs.View.{view_at, view_from, view_of, entry_of, declaration_part, target_part, declared_by, context_by}
 use Rattle.refusals.specs.Pass.{Ended}
-use Rattle.refusals.specs.Turned.{placed, endless_by}
+use Rattle.refusals.specs.Turned.{endless_by}
 
 -- the records of a view
 view-cons : (sheet : List ℕ) (a e : ℕ) → a < e → view_of sheet a e ≡ view_at sheet a ∷ view_of sheet (a + 1) e
@@ -46,63 +46,42 @@ module _ (table sheet : List ℕ) where
     unfolding behind context_by view_at
     behind-as b e = ap (behind_of (declared_by table sheet t)) (ap (λ (x : ℕ). eqb x 33) (sym hk) ∙ e)
 
-    pub behind-other : (k ≡ 33 → ⊥) → placed sheet 0 ≡ behind ctx (view_at sheet t)
-    behind-other n = sym (behind-as false (ne_eqb k 33 n))
+    pub behind_other : (k ≡ 33 → ⊥) → none ≡ behind ctx (view_at sheet t)
+    behind_other n = sym (behind-as false (ne_eqb k 33 n))
 
     module _ (named : k ≡ 33) (d : ℕ) (hd : d ≡ entry_of declaration_part table t) where
-      pub behind-undeclared : d ≡ 0 → placed sheet 0 ≡ behind ctx (view_at sheet t)
-      behind-undeclared z = sym (behind-as true (eq-eqb k 33 named) ∙ ap (λ (o : Option (Declared ℕ Span)). behind_of o true) (declared-none t (sym hd ∙ z)))
+      pub behind_undeclared : d ≡ 0 → none ≡ behind ctx (view_at sheet t)
+      behind_undeclared z = sym (behind-as true (eq-eqb k 33 named) ∙ ap (λ (o : Option (Declared ℕ Span)). behind_of o true) (declared-none t (sym hd ∙ z)))
 
-      inner_of : (e : ℕ) → entry_of declaration_part table t ≡ e → (e ≡ 0 → ⊥)
+      behind-inner : (e : ℕ) → entry_of declaration_part table t ≡ e → (e ≡ 0 → ⊥)
           → behind_of (declared_by table sheet t) true ≡ elim (entry_of target_part table t) [ zero ↦ none | suc i ↦ some (view_at sheet i) ]
       unfolding declared_by
-      inner_of zero e n = absurd (n refl)
-      inner_of (suc m) e n = rw (e, declared_by)
+      behind-inner zero e n = absurd (n refl)
+      behind-inner (suc m) e n = rw (e, declared_by)
 
-      same_place : (p : ℕ) → placed sheet p ≡ elim p [ zero ↦ none | suc i ↦ some (view_at sheet i) ]
-      same_place zero = refl
-      same_place (suc i) = refl
+      behind_at : (r : ℕ) → (d ≡ 0 → ⊥) → r ≡ entry_of target_part table t → elim r [ zero ↦ none | suc i ↦ some (view_at sheet i) ] ≡ behind ctx (view_at sheet t)
+      behind_at r n hr = rw hr (sym (behind-as true (eq-eqb k 33 named) ∙ behind-inner d (sym hd) n))
 
-      pub behind-target : (r : ℕ) → (d ≡ 0 → ⊥) → r ≡ entry_of target_part table t → placed sheet r ≡ behind ctx (view_at sheet t)
-      behind-target r n hr =
-          rw hr (same_place (entry_of target_part table t) ∙ sym (behind-as true (eq-eqb k 33 named) ∙ inner_of d (sym hd) n))
+      pub behind_over : (r : ℕ) → (d ≡ 0 → ⊥) → r ≡ entry_of target_part table t → r ≡ 0 → none ≡ behind ctx (view_at sheet t)
+      behind_over r n hr z = rw z at (behind_at r n hr)
 
-  -- the place of the next type
-  pub next-none : (p : ℕ) (o : Option (Rec ℕ Span)) → placed sheet p ≡ o → p ≡ 0 → none ≡ o
-  next-none p o e z = sym (ap (placed sheet) z) ∙ e
-
-  pub next-some : (p : ℕ) (o : Option (Rec ℕ Span)) → placed sheet p ≡ o → (p ≡ 0 → ⊥) → some (view_at sheet (p - 1)) ≡ o
-  next-some zero o e n = absurd (n refl)
-  next-some (suc p) o e n = let back : suc p - 1 ≡ p = omega arith in rw back e
+      pub behind_target : (r : ℕ) → (d ≡ 0 → ⊥) → r ≡ entry_of target_part table t → (r ≡ 0 → ⊥) → some (view_at sheet (r - 1)) ≡ behind ctx (view_at sheet t)
+      behind_target zero n hr z = absurd (z refl)
+      behind_target (suc i) n hr z = let back : suc i - 1 ≡ i = omega arith in rw back (behind_at (suc i) n hr)
 
   -- a newtype whose chain never ends
-  module _ (i n kind : ℕ) (hk : kind ≡ kind_in (record_bytes sheet i)) where
+  module _ (i n : ℕ) (newtype : Bool) (hn : newtype ≡ is_of 1 4 (view_at sheet i)) where
     abbrev rest : Bool
     rest = leads_nowhere ctx (view_of sheet (i + 1) n)
 
-    abbrev both : Bool → Bool → Bool
-    both k q = (k && q) && rest
+    pub other_ends : newtype ≡ false → false ≡ (is_of 1 4 (view_at sheet i) && rest)
+    other_ends f = rw (← hn, f)
 
-    pub other-kind : (kind ≡ 1 → ⊥) → false ≡ (is_of 1 4 (view_at sheet i) && rest)
-    unfolding view_at
-    other-kind ne = sym (ap (λ (k : Bool). both k (eqb (sub_in (record_bytes sheet i)) 4)) (ap (λ (k : ℕ). eqb k 1) (sym hk) ∙ ne_eqb kind 1 ne))
+    pub last_ends : newtype ≡ true → n ≤ i + 1 → false ≡ (is_of 1 4 (view_at sheet i) && rest)
+    last_ends t h = rw (← hn, t, view-end sheet (i + 1) n h)
 
-    module _ (e : kind ≡ 1) (sub : ℕ) (hs : sub ≡ sub_in (record_bytes sheet i)) where
-      declared-as : (b : Bool) → eqb sub 4 ≡ b → (is_of 1 4 (view_at sheet i) && rest) ≡ both true b
-      unfolding view_at
-      declared-as b q =
-          ap (λ (k : Bool). both k (eqb (sub_in (record_bytes sheet i)) 4)) (ap (λ (k : ℕ). eqb k 1) (sym hk) ∙ eq-eqb kind 1 e)
-          ∙ ap (both true) (ap (λ (m : ℕ). eqb m 4) (sym hs) ∙ q)
-
-      pub other-ends : (sub ≡ 4 → ⊥) → false ≡ (is_of 1 4 (view_at sheet i) && rest)
-      other-ends ne = sym (declared-as false (ne_eqb sub 4 ne))
-
-      module _ (four : sub ≡ 4) where
-        pub last-ends : n ≤ i + 1 → false ≡ (is_of 1 4 (view_at sheet i) && rest)
-        last-ends h = sym (declared-as true (eq-eqb sub 4 four) ∙ ap (leads_nowhere ctx) (view-end sheet (i + 1) n h))
-
-        pub newtype-walked : (r : Bool) → i + 1 < n → r ≡ never_ends ctx (view_at sheet (i + 1)) → r ≡ (is_of 1 4 (view_at sheet i) && rest)
-        newtype-walked r h hr = hr ∙ sym (declared-as true (eq-eqb sub 4 four) ∙ ap (leads_nowhere ctx) (view-cons sheet (i + 1) n h))
+    pub newtype_walked : newtype ≡ true → (r : Bool) → i + 1 < n → r ≡ never_ends ctx (view_at sheet (i + 1)) → r ≡ (is_of 1 4 (view_at sheet i) && rest)
+    newtype_walked t r h hr = rw (← hn, t, view-cons sheet (i + 1) n h) hr
 
   -- the first of them
   abbrev chosen : ℕ → ℕ → Bool → Option Fault
@@ -114,38 +93,31 @@ module _ (table sheet : List ℕ) where
     unfolding endless_chain
     chain-turn c e = ap (chosen i n) (sym e ∙ hb) ∙ sym (ap (endless_chain ctx i) (view-cons sheet i n h)) ∙ inv
 
-    pub endless-found : b ≡ true → some (record { number = 9; index = i }) ≡ all
-    endless-found = chain-turn true
+    pub endless_found : b ≡ true → some (record { number = 9; index = i }) ≡ all
+    endless_found = chain-turn true
 
-    pub endless-again : b ≡ false → endless_chain ctx (i + 1) (view_of sheet (i + 1) n) ≡ all
-    endless-again e = ap (λ (m : ℕ). endless_chain ctx m (view_of sheet (i + 1) n)) (add-one i) ∙ chain-turn false e
+    pub endless_again : b ≡ false → endless_chain ctx (i + 1) (view_of sheet (i + 1) n) ≡ all
+    endless_again e = ap (λ (m : ℕ). endless_chain ctx m (view_of sheet (i + 1) n)) (add-one i) ∙ chain-turn false e
 
   pub endless-none : (i n : ℕ) (all : Option Fault) → endless_chain ctx i (view_of sheet i n) ≡ all → n ≤ i → none ≡ all
   unfolding endless_chain
   endless-none i n all inv h = sym (ap (endless_chain ctx i) (view-end sheet i n h)) ∙ inv
 
-  pub endless-starts : (n : ℕ) → n ≡ length sheet / 32 → endless_chain ctx 0 (view_of sheet 0 n) ≡ endless_by table sheet
+  pub endless_starts : (n : ℕ) → n ≡ length sheet / 32 → endless_chain ctx 0 (view_of sheet 0 n) ≡ endless_by table sheet
   unfolding endless_by
-  endless-starts n e = ap (λ (m : ℕ). endless_chain ctx 0 (view_of sheet 0 m)) e
+  endless_starts n e = ap (λ (m : ℕ). endless_chain ctx 0 (view_of sheet 0 m)) e
 
   -- no newtype is left
-  no-newtype : (i n : ℕ) → (kind_in (record_bytes sheet i) ≡ 1 → sub_in (record_bytes sheet i) ≡ 4 → ⊥)
-      → false ≡ (is_of 1 4 (view_at sheet i) && leads_nowhere ctx (view_of sheet (i + 1) n))
-  no-newtype i n f = go (ℕ_discrete (kind_in (record_bytes sheet i)) 1)
-    where
-      go : Dec (kind_in (record_bytes sheet i) ≡ 1) → false ≡ (is_of 1 4 (view_at sheet i) && leads_nowhere ctx (view_of sheet (i + 1) n))
-      go (yes e) = other-ends i n (kind_in (record_bytes sheet i)) refl e (sub_in (record_bytes sheet i)) refl (f e)
-      go (no ne) = other-kind i n (kind_in (record_bytes sheet i)) refl ne
-
-  pub endless-rest : (k i n : ℕ) (all : Option Fault) → n ≤ i + k → endless_chain ctx i (view_of sheet i n) ≡ all
-      → ((j : ℕ) → i ≤ j → j < n → kind_in (record_bytes sheet j) ≡ 1 → sub_in (record_bytes sheet j) ≡ 4 → ⊥) → none ≡ all
+  endless-rest : (k i n : ℕ) (all : Option Fault) → n ≤ i + k → endless_chain ctx i (view_of sheet i n) ≡ all
+      → ((j : ℕ) → i ≤ j → j < n → is_of 1 4 (view_at sheet j) ≡ false) → none ≡ all
   endless-rest zero i n all h inv f = endless-none i n all inv (omega arith)
   endless-rest (suc k) i n all h inv f = go (endless-rest k (i + 1) n all) (dec_lt i n)
     where
       go : (n ≤ i + 1 + k → endless_chain ctx (i + 1) (view_of sheet (i + 1) n) ≡ all
-          → ((j : ℕ) → i + 1 ≤ j → j < n → kind_in (record_bytes sheet j) ≡ 1 → sub_in (record_bytes sheet j) ≡ 4 → ⊥) → none ≡ all) → Dec (i < n) → none ≡ all
+          → ((j : ℕ) → i + 1 ≤ j → j < n → is_of 1 4 (view_at sheet j) ≡ false) → none ≡ all) → Dec (i < n) → none ≡ all
       go next (no l) = endless-none i n all inv (omega arith)
-      go next (yes l) = next (omega arith) (endless-again i n false all inv (no-newtype i n (f i (omega arith) l)) l refl) (λ j a b. f j (omega arith) b)
+      go next (yes l) =
+          next (omega arith) (endless_again i n false all inv (other_ends i n false (sym (f i (omega arith) l)) refl) l refl) (λ j a b. f j (omega arith) b)
 
   module _ (end n : ℕ) (e : Ended sheet end (length sheet / 32)) where
     pub past_end : (i : ℕ) (all : Option Fault) → n ≡ length sheet / 32 → endless_chain ctx i (view_of sheet i n) ≡ all → end ≤ i → none ≡ all

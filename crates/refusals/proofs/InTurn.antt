@@ -9,10 +9,9 @@ use borrow.Author.Tests.{lt-ltb, le-ltb}
 use Rattle.rules.specs.Record.{records}
 use Rattle.rules.specs.Grammar.{start}
 use Rattle.rules.specs.Refusals.{Fault, is_wrong_length, is_long_names}
-use Rattle.rules.specs.Answer.{number_of}
-use Rattle.rules.specs.declared.answer.Refusal.{Refusal}
-use Rattle.refusals.specs.declared.pass.Passed.{Passed}
-use Rattle.refusals.specs.Pass.{is_second, first_fault_by, Ended, passed_of, EndSound}
+use Rattle.rules.specs.declared.answer.Refused.{Refused}
+use Rattle.std.specs.Prelude.{Result, Ok, Err}
+use Rattle.refusals.specs.Pass.{is_second, first_fault_by, Ended, passed_of, EndSound, fault_of}
 use Rattle.refusals.specs.Turned.{endless_by, refusal_by}
 
 module _ (table sheet names : List ℕ) where
@@ -33,23 +32,23 @@ module _ (table sheet names : List ℕ) where
   rows_as a b ea eb =
       ap (first (second (third passed) (is_long_names names))) ea ∙ ap (λ (c : Bool). first (second (third passed) c) a) eb
 
-  pub row-1 : is_wrong_length sheet ≡ true → some (record { number = 1; index = 0 }) ≡ refusal_by table sheet names
-  row-1 e = sym (rows_as true (is_long_names names) e refl)
+  pub row_1 : is_wrong_length sheet ≡ true → some (record { number = 1; index = 0 }) ≡ refusal_by table sheet names
+  row_1 e = sym (rows_as true (is_long_names names) e refl)
 
   module _ (e : is_wrong_length sheet ≡ false) where
-    pub row-2 : 16384 < length names → some (record { number = 2; index = 0 }) ≡ refusal_by table sheet names
-    row-2 h = sym (rows_as false true e (lt-ltb 16384 (length names) h))
+    pub row_2 : 16384 < length names → some (record { number = 2; index = 0 }) ≡ refusal_by table sheet names
+    row_2 h = sym (rows_as false true e (lt-ltb 16384 (length names) h))
 
-    module _ (h : length names ≤ 16384) (v : Passed) (hv : passed_of v ≡ first_fault_by (is_second table) start 0 (records sheet names)) where
+    module _ (h : length names ≤ 16384) (v : Result ℕ Refused) (hv : passed_of v ≡ first_fault_by (is_second table) start 0 (records sheet names)) where
       rows_then : third (passed_of v) ≡ refusal_by table sheet names
       rows_then = ap third hv ∙ sym (rows_as false false e (le-ltb 16384 (length names) h))
 
-      pub rows-3-to-8 : (why : Refusal) (index : ℕ) → v ≡ Passed.Refused why index → some (record { number = number_of why; index = index }) ≡ refusal_by table sheet names
-      rows-3-to-8 why index q = sym (ap (λ (w : Passed). third (passed_of w)) q) ∙ rows_then
+      pub rows_3_to_8 : (why : Refused) → v ≡ Err why → some (fault_of why) ≡ refusal_by table sheet names
+      rows_3_to_8 why q = sym (ap (λ (w : Result ℕ Refused). third (passed_of w)) q) ∙ rows_then
 
-      pub row-9 : (x : Option Fault) (end : ℕ) → v ≡ Passed.Accepted end → x ≡ endless_by table sheet → x ≡ refusal_by table sheet names
-      row-9 x end q hx = hx ∙ sym (ap (λ (w : Passed). third (passed_of w)) q) ∙ rows_then
+      pub row_9 : (x : Option Fault) (end : ℕ) → v ≡ Ok end → x ≡ endless_by table sheet → x ≡ refusal_by table sheet names
+      row_9 x end q hx = hx ∙ sym (ap (λ (w : Result ℕ Refused). third (passed_of w)) q) ∙ rows_then
 
 -- where the newtypes end, if there is no fault
-pub ended-found : (v : Passed) (sheet : List ℕ) (end : ℕ) → EndSound v sheet → v ≡ Passed.Accepted end → Ended sheet end (length sheet / 32)
-ended-found v sheet end h e = subst (λ (w : Passed). EndSound w sheet) e h
+pub ended_found : (v : Result ℕ Refused) (sheet : List ℕ) (end : ℕ) → EndSound v sheet → v ≡ Ok end → Ended sheet end (length sheet / 32)
+ended_found v sheet end h e = subst (λ (w : Result ℕ Refused). EndSound w sheet) e h

@@ -35,11 +35,11 @@ limit-known : (known : Bool) (n a : ℕ) (clean : Bool) → a < 256
 limit-known true n a clean h = ap (λ (t : Bool). t && clean) (limit-test n a h (eqb n 0) refl)
 limit-known false n a clean h = ap (λ (t : Bool). t && clean) (le-ltb a 0 (omega arith))
 
-pub unknown-read : (b : List ℕ) (kind sub limit : ℕ) (clean : Bool)
+pub unknown_read : (b : List ℕ) (kind sub limit : ℕ) (clean : Bool)
     → kind ≡ kind_in b → sub ≡ get_or b 1 0 → sub < 256 → limit ≡ sub_limit kind → clean ≡ clean_in b
     → not (ltb sub limit && clean) ≡ is_unknown (decode [] b)
 unfolding decode sub_in
-unknown-read b kind sub limit clean hk hs h256 hl hc =
+unknown_read b kind sub limit clean hk hs h256 hl hc =
     let same : limit ≡ sub_limit (kind_in b) = hl ∙ ap sub_limit hk in
     let small : get_or b 1 0 < 256 = rw hs at h256 in
     ap not (ap (λ (n : ℕ). ltb n limit && clean) hs ∙ ap (λ (n : ℕ). ltb (get_or b 1 0) n && clean) same ∙ ap (λ (c : Bool). ltb (get_or b 1 0) (sub_limit (kind_in b)) && c) hc
@@ -58,10 +58,10 @@ named-read b kind sub hk hs = go (ℕ_discrete kind 60)
         ∙ ap (λ (k : ℕ). Kind.has_name k (sub_in b)) hk
 
 module _ (names b : List ℕ) (end : ℕ) (he : end ≡ name_offset b + name_length b) where
-  pub cut-named : (kind sub : ℕ) (named : Bool) → length names < end → kind ≡ kind_in b → sub ≡ get_or b 1 0 → named ≡ Kind.has_name kind sub
+  pub cut_named : (kind sub : ℕ) (named : Bool) → length names < end → kind ≡ kind_in b → sub ≡ get_or b 1 0 → named ≡ Kind.has_name kind sub
       → named ≡ not (fits_in names b)
   unfolding fits_in
-  cut-named kind sub named l hk hs hn =
+  cut_named kind sub named l hk hs hn =
       hn ∙ named-read b kind sub hk hs ∙ twice (is_named_in b)
       ∙ sym (ap (λ (t : Bool). not (not (is_named_in b) || t)) (lt-leb (name_offset b + name_length b) (length names) (rw he at l)))
     where
@@ -69,9 +69,9 @@ module _ (names b : List ℕ) (end : ℕ) (he : end ≡ name_offset b + name_len
       twice true = refl
       twice false = refl
 
-  pub name-fits : end ≤ length names → false ≡ not (fits_in names b)
+  pub name_fits : end ≤ length names → false ≡ not (fits_in names b)
   unfolding fits_in
-  name-fits l =
+  name_fits l =
       sym (ap (λ (t : Bool). not (not (is_named_in b) || t)) (le-leb (name_offset b + name_length b) (length names) (rw he at l)) ∙ ap not (or-true (not (is_named_in b))))
 
 -- row 5: the value of a kind with an ordinal is its eight bytes
@@ -80,38 +80,38 @@ module _ (b : List ℕ) (v : ℕ) (hv : v ≡ number_at 24 8 b) where
   great-as true h great e = sym e ∙ ap (λ (n : ℕ). ltb 4294967295 n) (ordinal-value b (kind_in b) refl true v h refl hv)
   great-as false h great e = refl
 
-  pub great-read : (kind : ℕ) (has : Bool) → 4294967295 < v → kind ≡ kind_in b → has ≡ Kind.has_ordinal kind → has ≡ is_too_great (decode [] b)
+  pub great_read : (kind : ℕ) (has : Bool) → 4294967295 < v → kind ≡ kind_in b → has ≡ Kind.has_ordinal kind → has ≡ is_too_great (decode [] b)
   unfolding decode
-  great-read kind has l hk hh =
+  great_read kind has l hk hh =
       hh ∙ ap Kind.has_ordinal hk ∙ kept (Kind.has_ordinal (kind_in b)) ∙ great-as (Kind.has_ordinal (kind_in b)) refl true (lt-ltb 4294967295 v l)
     where
       kept : (h : Bool) → h ≡ (h && true)
       kept true = refl
       kept false = refl
 
-  pub small-read : v ≤ 4294967295 → false ≡ is_too_great (decode [] b)
+  pub small_read : v ≤ 4294967295 → false ≡ is_too_great (decode [] b)
   unfolding decode
-  small-read l = none (Kind.has_ordinal (kind_in b)) ∙ great-as (Kind.has_ordinal (kind_in b)) refl false (le-ltb 4294967295 v l)
+  small_read l = none (Kind.has_ordinal (kind_in b)) ∙ great-as (Kind.has_ordinal (kind_in b)) refl false (le-ltb 4294967295 v l)
     where
       none : (h : Bool) → false ≡ (h && false)
       none true = refl
       none false = refl
 
 module _ (names b : List ℕ) (unknown : Bool) (hu : unknown ≡ is_unknown (decode [] b)) where
-  pub own-unknown : unknown ≡ true → some 3 ≡ own_fault (decode names b)
+  pub own_unknown : unknown ≡ true → some 3 ≡ own_fault (decode names b)
   unfolding own_fault decode
-  own-unknown t = rw (sym hu ∙ t)
+  own_unknown t = rw (sym hu ∙ t)
 
   module _ (u : unknown ≡ false) (cut : Bool) (hf : cut ≡ not (fits_in names b)) where
-    pub own-cut : cut ≡ true → some 4 ≡ own_fault (decode names b)
+    pub own_cut : cut ≡ true → some 4 ≡ own_fault (decode names b)
     unfolding own_fault decode
-    own-cut t = rw (sym hu ∙ u, sym hf ∙ t)
+    own_cut t = rw (sym hu ∙ u, sym hf ∙ t)
 
     module _ (f : cut ≡ false) (great : Bool) (hg : great ≡ is_too_great (decode [] b)) where
-      pub own-great : great ≡ true → some 5 ≡ own_fault (decode names b)
+      pub own_great : great ≡ true → some 5 ≡ own_fault (decode names b)
       unfolding own_fault decode
-      own-great t = rw (sym hu ∙ u, sym hf ∙ f, sym hg ∙ t)
+      own_great t = rw (sym hu ∙ u, sym hf ∙ f, sym hg ∙ t)
 
-      pub own-none : great ≡ false → none ≡ own_fault (decode names b)
+      pub own_none : great ≡ false → none ≡ own_fault (decode names b)
       unfolding own_fault decode
-      own-none t = rw (sym hu ∙ u, sym hf ∙ f, sym hg ∙ t)
+      own_none t = rw (sym hu ∙ u, sym hf ∙ f, sym hg ∙ t)

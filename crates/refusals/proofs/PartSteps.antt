@@ -1,193 +1,264 @@
--- A step among the parts that are due: the top of the stack is the first part due, and the record's own parts take its place.
-use Prim.Native.Nat.{ℕ, zero, suc, ◌+◌, ◌-◌, ◌*◌, ◌/◌, ◌%◌, ◌<◌, ◌≤◌}
+-- A step among the parts that are due: the top entry is the first part due, and the record's own parts take its place.
+use Prim.Native.Nat.{ℕ, zero, suc, ◌+◌, ◌-◌, ◌<◌, ◌≤◌}
 use native.Mathlib.Nat.{add-zero}
 use native.Mathlib.Omega.{arith}
 use native.Mathlib.Decide.{dec_lt, ℕ_discrete}
 use native.Mathlib.Numerals.{add-one, add-two}
-use mathlib.Core.Path.{◌≡◌, refl, sym, ap, ◌∙◌}
-use mathlib.Core.Bool.{Bool, true, false, not}
-use mathlib.Core.List.{List, ◌∷◌, ◌++◌, map}
+use mathlib.Core.Path.{◌≡◌, refl, sym, ap, ◌∙◌, subst}
+use mathlib.Core.Bool.{Bool, true, false, false≢true}
+use mathlib.Core.List.{List, [], ◌∷◌, ◌++◌, map}
 use lib.ListN.{length, get_or, set, replicate, length-set}
 use lib.Seq.{get_or-set_same, get_or-set_other}
-use borrow.Author.Tests.{not-true, not-false, lt-ltb, le-ltb}
+use borrow.Author.Tests.{lt-ltb, le-ltb}
 use Rattle.rules.specs.Kind
-use Rattle.rules.specs.Kind.{Part}
 use Rattle.rules.specs.Grammar as Grammar
-use Rattle.rules.specs.Grammar.{due_at, part_step}
-use Rattle.rules.proofs.Taken.{within-true}
-use Rattle.refusals.specs.Due.{bare, part_at, part_number, due_of, dues, Sound, Taken}
+use Rattle.rules.specs.Grammar.{Due, due_at, none_due, part_step}
+use Rattle.refusals.specs.declared.due.Part.{Part}
+use Rattle.refusals.specs.declared.due.Part.TheVariants.{TypeExpr, Condition, Operand}
+use Rattle.refusals.specs.declared.due.Entry.{Entry}
+use Rattle.refusals.specs.Parts.{part_in, part_of, due_of, none, dues, Sound}
+use Rattle.refusals.specs.Due.{bare, is_first, Taken, room, deepened}
 use Rattle.refusals.proofs.Stack.{dues-above, dues-top, sound-height}
-use Rattle.refusals.proofs.Parts.{kind-uniform, type-part, number-type}
-
--- row 6: nothing is due
-pub step-none : (stack : List ℕ) (h kind : ℕ) → h ≡ 0 → Grammar.fault 6 ≡ part_step (dues stack h) (bare kind 0)
-unfolding dues part_step
-step-none stack h kind e = rw e
-
-module _ (stack : List ℕ) (h kind : ℕ) (n : h ≡ 0 → ⊥) (part : Bool) (e : part ≡ Kind.is_part (part_at (get_or stack (h - 1) 0 % 3)) kind) where
-  -- row 6: no such part
-  pub step_other : not part ≡ true → Grammar.fault 6 ≡ part_step (dues stack h) (bare kind 0)
-  unfolding part_step due_of
-  step_other t = rw (dues-top stack h n, sym e ∙ not-true part t, part_step)
-
-  module _ (t : not part ≡ false) where
-    -- row 7: depth 65
-    pub step-deep : 64 < get_or stack (h - 1) 0 / 3 → Grammar.fault 7 ≡ part_step (dues stack h) (bare kind 0)
-    unfolding part_step due_of
-    step-deep d = rw (dues-top stack h n, sym e ∙ not-false part t, part_step, lt-ltb 64 (get_or stack (h - 1) 0 / 3) d)
-
-    -- the record is taken
-    pub step-taken : get_or stack (h - 1) 0 / 3 ≤ 64
-        → part_step (dues stack h) (bare kind 0)
-        ≡ Grammar.to (map (due_at (suc (get_or stack (h - 1) 0 / 3))) (Kind.parts_of kind) ++ dues stack (h - 1))
-    unfolding part_step due_of
-    step-taken d = rw (dues-top stack h n, sym e ∙ not-false part t, part_step, le-ltb 64 (get_or stack (h - 1) 0 / 3) d)
-
--- what an entry says, of a depth and a part
-pub due-entry : (depth p : ℕ) → p < 3 → due_of (3 * (depth + 1) + p) ≡ due_at (suc depth) (part_at p)
-unfolding due_of
-due-entry depth p h =
-    let d : (3 * (depth + 1) + p) / 3 ≡ suc depth = omega arith in
-    let m : (3 * (depth + 1) + p) % 3 ≡ p = omega arith in
-    rw (d, m)
+use Rattle.refusals.proofs.Parts.{kind-uniform}
 
 -- two stores from the top on, and as many of them due
-pub pushed : (stack : List ℕ) (top v n : ℕ) → suc top < length stack → n ≤ 2
-    → dues (set (set stack top v) (suc top) v) (top + n) ≡ map (λ (w : ℕ). due_of w) (replicate n v) ++ dues stack top
+pushed : (es : List Entry) (top : ℕ) (v : Entry) (n : ℕ) → top + 1 < length es → n ≤ 2
+    → dues (set (set es top v) (top + 1) v) (top + n) ≡ map due_of (replicate n v) ++ dues es top
 unfolding dues
-pushed stack top v zero h l =
-    rw (add-zero, dues-above (set stack top v) (suc top) v top (omega arith), dues-above stack top v top (omega arith))
-pushed stack top v (suc zero) h l =
+pushed es top v zero h l =
+    rw (add-zero, dues-above (set es top v) (top + 1) v top (omega arith), dues-above es top v top (omega arith))
+pushed es top v (suc zero) h l =
     rw (
       add-one,
-      get_or-set_other (set stack top v) (suc top) top v 0 (omega arith),
-      get_or-set_same stack top v 0 (omega arith),
-      dues-above (set stack top v) (suc top) v top (omega arith),
-      dues-above stack top v top (omega arith),
+      get_or-set_other (set es top v) (suc top) top v none (omega arith),
+      get_or-set_same es top v none (omega arith),
+      dues-above (set es top v) (suc top) v top (omega arith),
+      dues-above es top v top (omega arith),
     )
-pushed stack top v (suc (suc zero)) h l =
+pushed es top v (suc (suc zero)) h l =
     rw (
+      add-one,
       add-two,
-      get_or-set_same (set stack top v) (suc top) v 0 (rw length-set h),
-      get_or-set_other (set stack top v) (suc top) top v 0 (omega arith),
-      get_or-set_same stack top v 0 (omega arith),
-      dues-above (set stack top v) (suc top) v top (omega arith),
-      dues-above stack top v top (omega arith),
+      get_or-set_same (set es top v) (suc top) v none (rw length-set (omega arith)),
+      get_or-set_other (set es top v) (suc top) top v none (omega arith),
+      get_or-set_same es top v none (omega arith),
+      dues-above (set es top v) (suc top) v top (omega arith),
+      dues-above es top v top (omega arith),
     )
-pushed stack top v (suc (suc (suc n))) h l = absurd (omega arith)
+pushed es top v (suc (suc (suc n))) h l = absurd (omega arith)
 
 map-replicate : {A B : Type 0} (f : A → B) (n : ℕ) (x : A) → map f (replicate n x) ≡ replicate n (f x)
 map-replicate f zero x = refl
 map-replicate f (suc n) x = ap (f x ∷◌) (map-replicate f n x)
 
 -- the record's parts are due, one deeper
-pub parts-due : (stack : List ℕ) (top depth p kind n : ℕ) → kind < 256 → suc top < length stack → p ≡ part_number kind → p < 3
+parts-due : (es : List Entry) (top depth kind n : ℕ) (p : Part) → kind < 256 → top + 1 < length es → p ≡ part_of kind
     → n ≡ length (Kind.parts_of kind)
-    → dues (set (set stack top (3 * (depth + 1) + p)) (suc top) (3 * (depth + 1) + p)) (top + n)
-    ≡ map (due_at (suc depth)) (Kind.parts_of kind) ++ dues stack top
-parts-due stack top depth p kind n hk hl hp h3 hn =
-    let v : ℕ = 3 * (depth + 1) + p in
+    → dues (set (set es top (record { depth = depth + 1; part = p })) (top + 1) (record { depth = depth + 1; part = p })) (top + n)
+    ≡ map (due_at (suc depth)) (Kind.parts_of kind) ++ dues es top
+parts-due es top depth kind n p hk hl hp hn =
+    let v : Entry = record { depth = depth + 1; part = p } in
     let u = kind-uniform kind hk in
-    let one : due_of v ≡ due_at (suc depth) (part_at (part_number kind)) = due-entry depth p h3 ∙ ap (λ (q : ℕ). due_at (suc depth) (part_at q)) hp in
-    let parts : List Part = Kind.parts_of kind in
-    let same : map (due_at (suc depth)) parts ≡ replicate (length parts) (due_at (suc depth) (part_at (part_number kind))) =
-    ap (map (due_at (suc depth))) u.same ∙ map-replicate (due_at (suc depth)) (length parts) (part_at (part_number kind)) in
-    let pushes : map (λ (w : ℕ). due_of w) (replicate n v) ≡ map (due_at (suc depth)) parts =
-    map-replicate (λ (w : ℕ). due_of w) n v ∙ rw (one, hn) (sym same) in
-    pushed stack top v n hl (rw hn u.few) ∙ rw pushes
+    let parts : List Kind.Part = Kind.parts_of kind in
+    let one : due_of v ≡ due_at (suc depth) (part_in (part_of kind)) = rw (add-one, hp) in
+    let same : map (due_at (suc depth)) parts ≡ replicate (length parts) (due_at (suc depth) (part_in (part_of kind))) =
+    ap (map (due_at (suc depth))) u.same ∙ map-replicate (due_at (suc depth)) (length parts) (part_in (part_of kind)) in
+    let pushes : map due_of (replicate n v) ≡ map (due_at (suc depth)) parts = map-replicate due_of n v ∙ rw (one, hn) (sym same) in
+    pushed es top v n hl (rw hn u.few) ∙ rw pushes
 
 -- the entries are as deep as they have to be
-pub parts-sound : (stack : List ℕ) (top depth p n : ℕ) → Sound stack (suc top) → suc top < length stack → depth ≡ get_or stack top 0 / 3
-    → depth ≤ 64 → p < 3 → n ≤ 2 → Sound (set (set stack top (3 * (depth + 1) + p)) (suc top) (3 * (depth + 1) + p)) (top + n)
-parts-sound stack top depth p n s hl hd le h3 hn =
+parts-sound : (es : List Entry) (top depth n : ℕ) (p : Part) → Sound es (top + 1) → depth ≡ (get_or es top none).depth
+    → depth ≤ 64 → n ≤ 2
+    → Sound (set (set es top (record { depth = depth + 1; part = p })) (top + 1) (record { depth = depth + 1; part = p })) (top + n)
+parts-sound es top depth n p s hd le hn =
     record {
-      size = length-set (set stack top v) (suc top) v ∙ length-set stack top v ∙ s.size;
+      size = length-set (set es top v) (top + 1) v ∙ length-set es top v ∙ s.size;
       deep = λ j h. deep j h (dec_lt j top);
       bounded = λ j h. bounded j h (dec_lt j top);
     }
   where
-    v : ℕ
-    v = 3 * (depth + 1) + p
+    v : Entry
+    v = record { depth = depth + 1; part = p }
 
-    after : List ℕ
-    after = set (set stack top v) (suc top) v
+    after : List Entry
+    after = set (set es top v) (top + 1) v
 
-    below : (j : ℕ) → j < top → get_or after j 0 ≡ get_or stack j 0
-    below j h = get_or-set_other (set stack top v) (suc top) j v 0 (omega arith) ∙ get_or-set_other stack top j v 0 (omega arith)
+    fits : top + 1 < length es
+    fits = omega (arith, s.size, sound-height es (top + 1) s)
 
-    at_top : (j : ℕ) → (j < top → ⊥) → j < top + n → get_or after j 0 ≡ v
-    at_top j l h = go (ℕ_discrete j (suc top))
+    below : (j : ℕ) → j < top → get_or after j none ≡ get_or es j none
+    below j h = get_or-set_other (set es top v) (top + 1) j v none (omega arith) ∙ get_or-set_other es top j v none (omega arith)
+
+    at_top : (j : ℕ) → (j < top → ⊥) → j < top + n → get_or after j none ≡ v
+    at_top j l h = go (ℕ_discrete j (top + 1))
       where
-        go : Dec (j ≡ suc top) → get_or after j 0 ≡ v
-        go (yes e) = rw (e, get_or-set_same (set stack top v) (suc top) v 0 (rw length-set hl))
+        go : Dec (j ≡ top + 1) → get_or after j none ≡ v
+        go (yes e) = rw (e, get_or-set_same (set es top v) (top + 1) v none (rw length-set fits))
         go (no ne) =
             let e : j ≡ top = omega arith in
-            rw (e, get_or-set_other (set stack top v) (suc top) top v 0 (omega arith), get_or-set_same stack top v 0 (omega arith))
+            rw (e, get_or-set_other (set es top v) (top + 1) top v none (omega arith), get_or-set_same es top v none (omega arith))
 
-    deep : (j : ℕ) → j < top + n → Dec (j < top) → j < get_or after j 0 / 3
+    deep : (j : ℕ) → j < top + n → Dec (j < top) → j < (get_or after j none).depth
     deep j h (yes l) = rw (below j l) (s.deep j (omega arith))
     deep j h (no l) = rw (at_top j l h) (omega (arith, s.deep top (omega arith)))
 
-    bounded : (j : ℕ) → j < top + n → Dec (j < top) → get_or after j 0 / 3 ≤ 65
+    bounded : (j : ℕ) → j < top + n → Dec (j < top) → (get_or after j none).depth ≤ 65
     bounded j h (yes l) = rw (below j l) (s.bounded j (omega arith))
     bounded j h (no l) = rw (at_top j l h) (omega arith)
 
--- the height that a step leaves, and what is due then
-pub part-taken : (stack : List ℕ) (h kind p n : ℕ) (part : Bool) → kind < 256 → Sound stack h → (h ≡ 0 → ⊥)
-    → part ≡ Kind.is_part (part_at (get_or stack (h - 1) 0 % 3)) kind → not part ≡ false → get_or stack (h - 1) 0 / 3 ≤ 64
-    → (p ≡ part_number kind) × (p < 3) → n ≡ length (Kind.parts_of kind)
-    → (Grammar.to (dues (set (set stack (h - 1) (3 * (get_or stack (h - 1) 0 / 3 + 1) + p)) h (3 * (get_or stack (h - 1) 0 / 3 + 1) + p)) (h - 1 + n))
-    ≡ part_step (dues stack h) (bare kind 0))
-    × Sound (set (set stack (h - 1) (3 * (get_or stack (h - 1) 0 / 3 + 1) + p)) h (3 * (get_or stack (h - 1) 0 / 3 + 1) + p)) (h - 1 + n)
-part-taken stack zero kind p n part hk s z e t d hp hn = absurd (z refl)
-part-taken stack (suc top) kind p n part hk s z e t d hp hn =
-    let back : suc top - 1 ≡ top = omega arith in
-    let fits : suc top < length stack = omega (arith, s.size, sound-height stack (suc top) s) in (
-      sym (step-taken stack (suc top) kind z part e t d
-          ∙ ap Grammar.to (rw back (sym (parts-due stack top (get_or stack top 0 / 3) p kind n hk fits hp.0 hp.1 hn)))),
-      rw back (parts-sound stack top (get_or stack top 0 / 3) p n s fits refl (rw back at d) hp.1 (rw hn (kind-uniform kind hk).few)),
-    )
+some-first : (es : List Entry) (h kind : ℕ) → is_first (dues es h) kind → 1 ≤ h
+unfolding dues
+some-first es zero kind f = absurd f
+some-first es (suc h) kind f = omega arith
 
--- an index of the stack
-pub top_within : (stack : List ℕ) (h : ℕ) → Sound stack h → (h ≡ 0 → ⊥) → h - 1 < 66
-top_within stack h s n = omega (arith, sound-height stack h s)
+-- the record is the first part that is due
+module _ (es : List Entry) (h kind : ℕ) (p : Part) (ds : List Due) (view : dues es h ≡ ds) (t : Taken ds kind p) where
+  pub taken-some : 1 ≤ h
+  taken-some = some-first es h kind (rw view t.first)
 
-pub height-within : (stack : List ℕ) (h : ℕ) → Sound stack h → h < 66
-height-within stack h s = omega (arith, sound-height stack h s)
+  abbrev pub top : Entry
+  top = get_or es (h - 1) none
 
--- the record is such a part
-module _ (stack : List ℕ) (h kind p : ℕ) (t : Taken stack h kind p) where
-  pub taken-deep : 64 < get_or stack (h - 1) 0 / 3 → Grammar.fault 7 ≡ part_step (dues stack h) (bare kind 0)
-  taken-deep d = step-deep stack h kind t.some true (sym t.fits) refl d
+  as-top : ds ≡ due_of top ∷ dues es (h - 1)
+  as-top = sym view ∙ dues-top es h (λ z. omega (arith, taken-some))
 
-  pub taken-parts : (n : ℕ) → kind < 256 → get_or stack (h - 1) 0 / 3 ≤ 64 → n ≡ length (Kind.parts_of kind)
-      → (Grammar.to (dues (set (set stack (h - 1) (3 * (get_or stack (h - 1) 0 / 3 + 1) + p)) h (3 * (get_or stack (h - 1) 0 / 3 + 1) + p)) (h - 1 + n))
-      ≡ part_step (dues stack h) (bare kind 0))
-      × Sound (set (set stack (h - 1) (3 * (get_or stack (h - 1) 0 / 3 + 1) + p)) h (3 * (get_or stack (h - 1) 0 / 3 + 1) + p)) (h - 1 + n)
-  taken-parts n hk d hn = part-taken stack h kind p n true hk t.sound t.some (sym t.fits) refl d (t.parts, t.small) hn
+  fits : Kind.is_part (part_in top.part) kind ≡ true
+  fits = subst (λ x. is_first x kind) as-top t.first
 
--- whether the record is such a part
-module _ (stack : List ℕ) (h kind part : ℕ) (s : Sound stack h) (n : h ≡ 0 → ⊥) (hp : part ≡ get_or stack (h - 1) 0 % 3) where
-  part-as : (r : Bool) → r ≡ Kind.is_part (part_at part) kind → r ≡ Kind.is_part (part_at (get_or stack (h - 1) 0 % 3)) kind
-  part-as r e = e ∙ ap (λ (q : ℕ). Kind.is_part (part_at q) kind) hp
+  pub taken-deep : 64 < top.depth → Grammar.fault 7 ≡ part_step ds (bare kind 0)
+  unfolding part_step
+  taken-deep d = rw (as-top, fits, part_step, lt-ltb 64 top.depth d)
 
-  module _ (z : part ≡ 0) (r : Bool) (e : r ≡ Kind.is_type kind) where
-    pub type-taken : r ≡ true → Taken stack h kind 0
-    type-taken t =
+  module _ (n : ℕ) (sound : Sound es h) (hk : kind < 256) (d : top.depth ≤ 64) (hn : n ≡ length (Kind.parts_of kind)) where
+    back : h - 1 + 1 ≡ h
+    back = omega (arith, taken-some)
+
+    pub taken-parts :
+        Grammar.to (dues (set (set es (h - 1) (record { depth = top.depth + 1; part = p })) (h - 1 + 1) (record { depth = top.depth + 1; part = p })) (h - 1 + n))
+        ≡ part_step ds (bare kind 0)
+    unfolding part_step
+    taken-parts =
+        let fit : h - 1 + 1 < length es = omega (arith, sound.size, sound-height es h sound, taken-some) in
+        rw (as-top, fits, part_step, le-ltb 64 top.depth d) (ap Grammar.to (parts-due es (h - 1) top.depth kind n p hk fit t.parts hn))
+
+    pub taken-sound : Sound (set (set es (h - 1) (record { depth = top.depth + 1; part = p })) (h - 1 + 1) (record { depth = top.depth + 1; part = p })) (h - 1 + n)
+    taken-sound = parts-sound es (h - 1) top.depth n p (rw back sound) refl d (rw hn (kind-uniform kind hk).few)
+
+-- nothing is due
+module _ (es : List Entry) (h : ℕ) (ds : List Due) (view : dues es h ≡ ds) (z : h ≡ 0) where
+  no-parts : ds ≡ []
+  unfolding dues
+  no-parts = rw z at (sym view)
+
+  pub step-none : (kind : ℕ) → Grammar.fault 6 ≡ part_step ds (bare kind 0)
+  unfolding part_step
+  step-none kind = rw no-parts
+
+  pub room-none : 0 ≡ room ds
+  room-none = rw no-parts
+
+-- something is due
+module _ (es : List Entry) (h : ℕ) (ds : List Due) (view : dues es h ≡ ds) (n : h ≡ 0 → ⊥) where
+  abbrev pub first : Entry
+  first = get_or es (h - 1) none
+
+  as-first : ds ≡ due_of first ∷ dues es (h - 1)
+  as-first = sym view ∙ dues-top es h n
+
+  module _ (kind : ℕ) (r : Bool) (e : r ≡ Kind.is_part (part_in first.part) kind) where
+    -- row 6: no such part
+    pub step-other : r ≡ false → Grammar.fault 6 ≡ part_step ds (bare kind 0)
+    unfolding part_step
+    step-other f = rw (as-first, ← e, f, part_step)
+
+    pub first-taken : (p : Part) → r ≡ true → p ≡ part_of kind → Taken ds kind p
+    first-taken p t hp = record { first = rw as-first (sym e ∙ t); parts = hp }
+
+  pub room-type : first.part ≡ TypeExpr → 65 - first.depth ≡ room ds
+  room-type t = rw (as-first, t)
+
+  pub room-other : (first.part ≡ TypeExpr → ⊥) → 0 ≡ room ds
+  room-other t = rw as-first (go first.part refl)
+    where
+      go : (p : Part) → p ≡ first.part → 0 ≡ room (due_of first ∷ dues es (h - 1))
+      go TypeExpr e = absurd (t (sym e))
+      go Condition e = rw (← e) refl
+      go Operand e = rw (← e) refl
+
+-- some types of one part have come
+room-first : (e : Entry) (ds : List Due) → room (due_of e ∷ ds) ≤ 65 - e.depth
+room-first e ds = go e.part refl
+  where
+    go : (p : Part) → p ≡ e.part → room (due_of e ∷ ds) ≤ 65 - e.depth
+    go TypeExpr t = rw (← t) (omega arith)
+    go Condition t = rw (← t) (omega arith)
+    go Operand t = rw (← t) (omega arith)
+
+some-due : (es : List Entry) (h : ℕ) → none_due (dues es h) ≡ false → 1 ≤ h
+unfolding dues
+some-due es zero f = absurd (false≢true (sym f))
+some-due es (suc h) f = omega arith
+
+module _ (es : List Entry) (h by : ℕ) (ds : List Due) (view : dues es h ≡ ds) (some : none_due ds ≡ false) (fits : by ≤ room ds) where
+  abbrev pub old : Entry
+  old = get_or es (h - 1) none
+
+  abbrev pub new : Entry
+  new = record { depth = old.depth + by; part = old.part }
+
+  pub deepen-some : 1 ≤ h
+  deepen-some = some-due es h (rw view some)
+
+  as-old : ds ≡ due_of old ∷ dues es (h - 1)
+  as-old = sym view ∙ dues-top es h (λ z. omega (arith, deepen-some))
+
+  pub deepen-fits : by ≤ 65 - old.depth
+  deepen-fits = omega (arith, fits, rw (← as-old) at (room-first old (dues es (h - 1))))
+
+  module _ (sound : Sound es h) where
+    within : h - 1 < length es
+    within = omega (arith, sound-height es h sound, sound.size, deepen-some)
+
+    pub deepened-dues : dues (set es (h - 1) new) h ≡ deepened by ds
+    deepened-dues =
+        dues-top (set es (h - 1) new) h (λ z. omega (arith, deepen-some))
+        ∙ rw (get_or-set_same es (h - 1) new none within, dues-above es (h - 1) new (h - 1) (omega arith), as-old)
+
+    pub deepened-sound : Sound (set es (h - 1) new) h
+    deepened-sound =
         record {
-          sound = s;
-          some = n;
-          fits = sym (part-as r (type-part part kind r e z)) ∙ t;
-          parts = number-type kind (omega (arith, (within-true 30 48 kind (sym e ∙ t)).1));
-          small = omega arith;
+          size = length-set es (h - 1) new ∙ sound.size;
+          deep = λ j l. by-deep j l (ℕ_discrete j (h - 1));
+          bounded = λ j l. by-bounded j l (ℕ_discrete j (h - 1));
         }
+      where
+        at_top : (j : ℕ) → j ≡ h - 1 → get_or (set es (h - 1) new) j none ≡ new
+        at_top j e = rw e (get_or-set_same es (h - 1) new none within)
 
-    pub type-other : r ≡ false → Grammar.fault 6 ≡ part_step (dues stack h) (bare kind 0)
-    type-other f = step_other stack h kind n r (part-as r (type-part part kind r e z)) (ap not f)
+        below : (j : ℕ) → (j ≡ h - 1 → ⊥) → get_or (set es (h - 1) new) j none ≡ get_or es j none
+        below j e = get_or-set_other es (h - 1) j new none e
 
-  module _ (r : Bool) (e : r ≡ Kind.is_part (part_at part) kind) where
-    pub other-taken : (p : ℕ) → not r ≡ false → (p ≡ part_number kind) × (p < 3) → Taken stack h kind p
-    other-taken p f hn = record { sound = s; some = n; fits = sym (part-as r e) ∙ not-false r f; parts = hn.0; small = hn.1 }
+        by-deep : (j : ℕ) → j < h → Dec (j ≡ h - 1) → j < (get_or (set es (h - 1) new) j none).depth
+        by-deep j l (yes e) = rw (at_top j e) (omega (arith, e, sound.deep (h - 1) (omega arith)))
+        by-deep j l (no e) = rw (below j e) (sound.deep j l)
 
-    pub part-other : not r ≡ true → Grammar.fault 6 ≡ part_step (dues stack h) (bare kind 0)
-    part-other t = step_other stack h kind n r (part-as r e) t
+        by-bounded : (j : ℕ) → j < h → Dec (j ≡ h - 1) → (get_or (set es (h - 1) new) j none).depth ≤ 65
+        by-bounded j l (yes e) = rw (at_top j e) (omega (arith, deepen-fits, sound.bounded (h - 1) (omega (arith, deepen-some))))
+        by-bounded j l (no e) = rw (below j e) (sound.bounded j l)
+
+-- one part is due, of depth 1
+module _ (es : List Entry) (v : Entry) (one : v.depth ≡ 1) (size : length es ≡ 66) where
+  begun : get_or (set es 0 v) 0 none ≡ v
+  begun = get_or-set_same es 0 v none (omega (arith, size))
+
+  pub begins-dues : dues (set es 0 v) 1 ≡ due_of v ∷ []
+  unfolding dues
+  begins-dues = rw begun
+
+  pub begins-sound : Sound (set es 0 v) 1
+  begins-sound =
+      record {
+        size = length-set es 0 v ∙ size;
+        deep = λ j l. let z : j ≡ 0 = omega arith in rw (z, begun) (omega (arith, one));
+        bounded = λ j l. let z : j ≡ 0 = omega arith in rw (z, begun) (omega (arith, one));
+      }

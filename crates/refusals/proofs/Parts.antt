@@ -1,16 +1,15 @@
 -- The parts of a kind are all one part, and at most two: a test at each of the 256 bytes.
-use Prim.Native.Nat.{ℕ, zero, suc, ◌<◌, ◌≤◌}
+use Prim.Native.Nat.{ℕ, ◌<◌, ◌≤◌}
 use native.Mathlib.Omega.{arith}
 use mathlib.Core.Path.{◌≡◌, refl}
 use mathlib.Core.Bool.{Bool, true, false, ◌&&◌}
 use mathlib.Core.List.{List, [], ◌∷◌}
 use lib.ListN.{length, replicate}
-use lib.Dec.{T, eqb}
-use borrow.Author.Tests.{lt-ltb, le-ltb}
+use lib.Dec.{T}
 use Rattle.rules.specs.Kind
 use Rattle.rules.specs.Kind.{Part, type, condition, operand}
 use Rattle.sheet.proofs.Below.{passes_below, passes_at}
-use Rattle.refusals.specs.Due.{part_at, part_number}
+use Rattle.refusals.specs.Parts.{part_in, part_of}
 
 same_part : Part → Part → Bool
 same_part type type = true
@@ -60,37 +59,8 @@ is-uniform p (q ∷ r ∷ []) t =
     record { same = rw (same-part q p e.0, same-part r p e.1); few = omega arith }
 is-uniform p (q ∷ r ∷ s ∷ l) t = absurd t
 
-pub kind-uniform : (kind : ℕ) → kind < 256 → Uniform (part_at (part_number kind)) (Kind.parts_of kind)
-unfolding passes_below uniform same_part Kind.parts_of part_at
+pub kind-uniform : (kind : ℕ) → kind < 256 → Uniform (part_in (part_of kind)) (Kind.parts_of kind)
+unfolding passes_below uniform same_part Kind.parts_of
 kind-uniform kind h =
-    is-uniform (part_at (part_number kind)) (Kind.parts_of kind)
-    (passes_at 256 (λ k. uniform (part_at (part_number k)) (Kind.parts_of k)) tt kind h)
-
--- a number that is neither 0 nor 1 is an operand's
-pub part-rest : (part : ℕ) → (part ≡ 0 → ⊥) → (part ≡ 1 → ⊥) → part_at part ≡ operand
-unfolding part_at
-part-rest zero h₀ h₁ = absurd (h₀ refl)
-part-rest (suc zero) h₀ h₁ = absurd (h₁ refl)
-part-rest (suc (suc n)) h₀ h₁ = refl
-
-module _ (part kind : ℕ) where
-  pub type-part : (r : Bool) → r ≡ Kind.is_type kind → part ≡ 0 → r ≡ Kind.is_part (part_at part) kind
-  unfolding part_at
-  type-part r e h = rw h e
-
-  pub condition-part : (r : Bool) → r ≡ Kind.is_condition kind → part ≡ 1 → r ≡ Kind.is_part (part_at part) kind
-  unfolding part_at
-  condition-part r e h = rw h e
-
-  pub operand-part : (part ≡ 0 → ⊥) → (part ≡ 1 → ⊥) → eqb kind 60 ≡ Kind.is_part (part_at part) kind
-  operand-part h₀ h₁ = rw (part-rest part h₀ h₁)
-
-module _ (kind : ℕ) where
-  pub number-type : kind < 50 → 0 ≡ part_number kind
-  number-type h = rw (lt-ltb kind 50 h, part_number)
-
-  pub number-condition : 50 ≤ kind → kind < 53 → 1 ≡ part_number kind
-  number-condition l h = rw (le-ltb kind 50 l, part_number, lt-ltb kind 53 h)
-
-  pub number-operand : 50 ≤ kind → 53 ≤ kind → 2 ≡ part_number kind
-  number-operand l h = rw (le-ltb kind 50 l, part_number, le-ltb kind 53 h)
+    is-uniform (part_in (part_of kind)) (Kind.parts_of kind)
+    (passes_at 256 (λ k. uniform (part_in (part_of k)) (Kind.parts_of k)) tt kind h)

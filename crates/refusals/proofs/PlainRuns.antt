@@ -1,37 +1,37 @@
 -- A record of a run has no fault of its own, and its step is told by its kind: an imported name and a bit name leave the state as it is, and a type of
 -- one part has the part that is due one deeper. So a run takes the pass as far as the steps of its records would.
-use Prim.Native.Nat.{ℕ, zero, suc, ◌+◌, ◌-◌, ◌*◌, ◌/◌, ◌%◌, ◌≤◌, ◌<◌}
+use Prim.Native.Nat.{ℕ, zero, suc, ◌+◌, ◌-◌, ◌/◌, ◌≤◌, ◌<◌}
 use native.Mathlib.Omega.{arith}
 use native.Mathlib.Decide.{dec_lt, ℕ_discrete}
 use mathlib.Core.Path.{◌≡◌, refl, sym, ap, ◌∙◌, subst}
 use mathlib.Core.Bool.{Bool, true, false, not, ◌&&◌, ◌||◌, false≢true}
 use mathlib.Core.List.{List, [], ◌∷◌}
 use mathlib.Core.Option.{none}
-use lib.ListN.{length, get_or, drop, set, length-set}
-use lib.Seq.{get_or-set_same, get_or-set_other}
+use Rattle.std.specs.Prelude.{Ok}
+use Rattle.names.specs.View.{view_at}
+use lib.ListN.{length, get_or, drop}
 use lib.Dec.{eqb, leb}
-use borrow.Author.Tests.{eqb-true, eqb-false, leb-true, le-ltb, not-false}
+use borrow.Author.Tests.{eqb-true, leb-true, le-ltb, not-false}
 use Rattle.rules.specs.Words.{within, look_up, any_of}
 use Rattle.rules.specs.Kind
-use Rattle.rules.specs.Kind.{type}
-use Rattle.rules.specs.Record.{record_bytes, decode, kind_in, sub_in, clean_in, is_named_in, fits_in, name_offset, name_length, records}
+use Rattle.rules.specs.Sub
+use Rattle.rules.specs.Kind.{type, condition, operand}
+use Rattle.rules.specs.Record.{record_bytes, decode, kind_in, sub_in, clean_in, is_named_in, fits_in, name_offset, name_length, is_of, records}
 use Rattle.rules.specs.Grammar as Grammar
-use Rattle.rules.specs.Grammar.{Due, due_at, lifted, step, context_step, field_list_step, field_step, type_step, part_step}
+use Rattle.rules.specs.Grammar.{Due, due_at, none_due, lifted, step, context_step, field_list_step, field_step, type_step, part_step}
 use Rattle.rules.specs.Refusals.{own_fault}
 use Rattle.rules.proofs.Taken.{within-true}
-use Rattle.refusals.specs.declared.own.Own.TheVariants as Own
 use Rattle.refusals.specs.declared.runs.Run.{Run}
 use Rattle.refusals.specs.declared.runs.Run.TheVariants.{Imports, BitNames, Nests}
 use Rattle.refusals.specs.declared.state.Body.{Body}
 use Rattle.refusals.specs.declared.state.Item.{Item}
 use Rattle.refusals.specs.declared.state.State.{State}
-use Rattle.refusals.specs.Due.{bare, part_at, due_of, dues, Sound}
+use Rattle.refusals.specs.Due.{bare, room, deepened}
 use Rattle.refusals.specs.States.{type_with, in_body, state_of}
 use Rattle.refusals.specs.Pass.{or_second, record_step_by, first_fault_by, Ended}
 use Rattle.refusals.specs.Runs.{InRun, Plain, Ran, at}
-use Rattle.refusals.proofs.OwnFaults.{own-none, name-fits}
-use Rattle.refusals.proofs.Passes.{grammar-then, pass-again}
-use Rattle.refusals.proofs.Stack.{dues-above, dues-top, sound-height}
+use Rattle.refusals.proofs.OwnFaults.{own_none, name_fits}
+use Rattle.refusals.proofs.Passes.{grammar_then, pass_again}
 
 -- the kinds of types of one part
 nest-cases : (P : ℕ → Type 0) (kind : ℕ) → within Kind.Optional Kind.Set kind ≡ true → P 36 → P 37 → P 38 → P 39 → P kind
@@ -73,7 +73,7 @@ module _ (names b : List ℕ) (kind : ℕ) (quiet : Quiet kind) (k : kind_in b �
   own-quiet : clean_in b ≡ true → fits_in names b ≡ true → none ≡ own_fault (decode names b)
   unfolding decode
   own-quiet c f =
-      own-none names b false
+      own_none names b false
       (known-sub (Kind.known (kind_in b)) (eqb (Kind.sub_count (kind_in b)) 0) _ (clean_in b) (ap Kind.known k ∙ quiet.known)
       (ap (λ (n : ℕ). eqb (Kind.sub_count n) 0) k ∙ quiet.subs) c)
       refl false (sym (ap not f)) refl false (no-ordinal (Kind.has_ordinal (kind_in b)) _ (ap Kind.has_ordinal k ∙ quiet.ordinal)) refl
@@ -83,7 +83,7 @@ module _ (names b : List ℕ) (kind : ℕ) (quiet : Quiet kind) (k : kind_in b �
       (second : Bool) (g t : Grammar.State) → clean_in b ≡ true → fits_in names b ≡ true → step g (bare kind (sub_in b)) ≡ Grammar.to t →
       Grammar.to t ≡ record_step_by second g (decode names b)
   quiet_step second g t c f h =
-      grammar-then names b second g Own.Sound (own-quiet c f) (Grammar.to t) refl
+      grammar_then names b second g (Ok tt) (own-quiet c f) (Grammar.to t) tt refl
       (sym (ap (λ (x : Grammar.Step Grammar.State). or_second (eqb (kind_in b) 1 && second) x) (ap (λ (n : ℕ). step g (bare n (sub_in b))) k ∙ h)
       ∙ ap (λ (one : Bool). or_second (one && second) (Grammar.to t)) (ap (λ (n : ℕ). eqb n 1) k ∙ quiet.other)))
 
@@ -127,18 +127,19 @@ module _ (second : ℕ → Bool) (sheet names : List ℕ) where
   run g i (suc n) h steps =
       let next : i + suc n ≡ i + n + 1 = omega arith in
       rw next (
-      pass-again second sheet names (g n) (i + n) _ (run g i n (omega arith) (λ k l. steps k (omega arith))) (g (suc n)) (omega arith)
+      pass_again second sheet names (g n) (i + n) _ (run g i n (omega arith) (λ k l. steps k (omega arith))) (g (suc n)) (omega arith)
       (steps n (omega arith))
       )
 
 module _ (run_of : Run) (sheet names : List ℕ) (i r n : ℕ) (first : i ≤ r) (last : r ≤ n) (all : n ≡ length sheet / 32) (plain : (j : ℕ) → i ≤ j → j < r → Plain run_of sheet names j) where
   -- no record of a run is a newtype
   run-ended : (end : ℕ) → Ended sheet end i → Ended sheet end r
+  unfolding view_at
   run-ended end h = record { within = omega (arith, h.within); none = λ j a b. by j a b (dec_lt j i) }
     where
-      by : (j : ℕ) → end ≤ j → j < r → Dec (j < i) → kind_in (record_bytes sheet j) ≡ 1 → sub_in (record_bytes sheet j) ≡ 4 → ⊥
-      by j a b (yes l) e s = h.none j a l e s
-      by j a b (no l) e s = eqb-false (kind_in (record_bytes sheet j)) 1 (quiet-kind run_of (kind_in (record_bytes sheet j)) (plain j (omega arith) b).kind).other e
+      by : (j : ℕ) → end ≤ j → j < r → Dec (j < i) → is_of Kind.Declaration Sub.Newtype (view_at sheet j) ≡ false
+      by j a b (yes l) = h.none j a l
+      by j a b (no l) = rw (quiet-kind run_of (kind_in (record_bytes sheet j)) (plain j (omega arith) b).kind).other refl
 
   -- the states after its records are those told by their kinds
   run-same :
@@ -153,125 +154,72 @@ module _ (run_of : Run) (sheet names : List ℕ) (i r n : ℕ) (first : i ≤ r)
           quiet_step names (record_bytes sheet (i + k)) (kind_in (record_bytes sheet (i + k))) (quiet-kind run_of _ p.kind) refl (second (i + k)) (g k) (g (suc k)) p.clean
           p.fits (steps k (kind_in (record_bytes sheet (i + k))) (sub_in (record_bytes sheet (i + k))) l p.kind)
 
-  pub ran-stays :
-      (s : State) (stack : List ℕ) → Sound stack s.height →
-      ((kind sub : ℕ) → InRun run_of kind → step (state_of s stack) (bare kind sub) ≡ Grammar.to (state_of s stack)) → Ran sheet names s stack stack i r
-  ran-stays s stack sound steps =
+  ran-stays :
+      (s : State) (ds : List Due) → ((kind sub : ℕ) → InRun run_of kind → step (state_of s ds) (bare kind sub) ≡ Grammar.to (state_of s ds)) →
+      Ran sheet names s ds ds i r
+  ran-stays s ds steps =
+      record { least = first; most = omega arith; same = run-same (λ k. state_of s ds) (λ k kind sub l h. steps kind sub h); ended = run-ended }
+
+-- types of one part have the part that is due one deeper each
+module _ (sheet names : List ℕ) (i r n : ℕ) (first : i ≤ r) (last : r ≤ n) (all : n ≡ length sheet / 32) (plain : (j : ℕ) → i ≤ j → j < r → Plain Nests sheet names j) where
+  ran-deeper : (depth : ℕ) (ds : List Due) → r ≤ i + (65 - depth) →
+      Ran sheet names (at Body.Message Item.Typed) (due_at depth type ∷ ds) (due_at (depth + (r - i)) type ∷ ds) i r
+  unfolding state_of
+  ran-deeper depth ds few =
       record {
         least = first;
         most = omega arith;
-        sound = sound;
-        same = run-same (λ k. state_of s stack) (λ k kind sub l h. steps kind sub h);
-        ended = run-ended;
+        same = λ second. rw none_more at (run-same Nests sheet names i r n first last all plain deeper steps second);
+        ended = run-ended Nests sheet names i r n first last all plain;
       }
-
--- the top of the stack, by what an entry says
-deep-entry : (entry k : ℕ) → entry % 3 ≡ 0 → due_of (entry + 3 * k) ≡ due_at (entry / 3 + k) type
-unfolding due_of part_at
-deep-entry entry k h =
-    let d : (entry + 3 * k) / 3 ≡ entry / 3 + k = omega arith in
-    let m : (entry + 3 * k) % 3 ≡ 0 = omega arith in
-    rw (d, m)
-
-module _ (sheet names stack : List ℕ) (height i r n limit : ℕ) (sound : Sound stack height) (some : height ≡ 0 → ⊥) (type-due : get_or stack (height - 1) 0 % 3 ≡ 0) where
-  abbrev entry : ℕ
-  entry = get_or stack (height - 1) 0
-
-  abbrev after : List ℕ
-  after = set stack (height - 1) (entry + 3 * (r - i))
-
-  within-stack : height - 1 < length stack
-  within-stack = omega (arith, sound-height stack height sound, sound.size)
-
-  -- one deeper with each record
-  abbrev deeper : ℕ → Grammar.State
-  deeper k = in_body Body.Message Item.Typed (due_at (entry / 3 + k) type ∷ dues stack (height - 1))
-
-  starts : state_of (at Body.Message Item.Typed height) stack ≡ deeper 0
-  unfolding state_of
-  starts = ap (in_body Body.Message Item.Typed) (dues-top stack height some ∙ ap (λ d. d ∷ dues stack (height - 1)) (rw none_more at (deep-entry entry 0 type-due)))
     where
-      none_more : entry + 3 * 0 ≡ entry
+      deeper : ℕ → Grammar.State
+      deeper k = in_body Body.Message Item.Typed (due_at (depth + k) type ∷ ds)
+
+      none_more : depth + 0 ≡ depth
       none_more = omega arith
 
-  ends : state_of (at Body.Message Item.Typed height) after ≡ deeper (r - i)
-  unfolding state_of
-  ends =
-      ap (in_body Body.Message Item.Typed)
-      (dues-top after height some
-      ∙ rw (
-        get_or-set_same stack (height - 1) (entry + 3 * (r - i)) 0 within-stack,
-        dues-above stack (height - 1) (entry + 3 * (r - i)) (height - 1) (omega arith),
-        deep-entry entry (r - i) type-due,
-      ))
-
-  deep-sound : i ≤ r → r ≤ i + (65 - entry / 3) → Sound after height
-  deep-sound l m =
-      record {
-        size = length-set stack (height - 1) (entry + 3 * (r - i)) ∙ sound.size;
-        deep = λ j h. by-deep j h (ℕ_discrete j (height - 1));
-        bounded = λ j h. by-bounded j h (ℕ_discrete j (height - 1));
-      }
-    where
-      top : (j : ℕ) → j ≡ height - 1 → get_or after j 0 / 3 ≡ entry / 3 + (r - i)
-      top j e =
-          let d : (entry + 3 * (r - i)) / 3 ≡ entry / 3 + (r - i) = omega arith in
-          rw (e, get_or-set_same stack (height - 1) (entry + 3 * (r - i)) 0 within-stack) d
-
-      below : (j : ℕ) → (j ≡ height - 1 → ⊥) → get_or after j 0 ≡ get_or stack j 0
-      below j e = get_or-set_other stack (height - 1) j (entry + 3 * (r - i)) 0 e
-
-      by-deep : (j : ℕ) → j < height → Dec (j ≡ height - 1) → j < get_or after j 0 / 3
-      by-deep j h (yes e) = omega (arith, top j e, sound.deep (height - 1) (omega arith))
-      by-deep j h (no e) = rw (below j e) (sound.deep j h)
-
-      by-bounded : (j : ℕ) → j < height → Dec (j ≡ height - 1) → get_or after j 0 / 3 ≤ 65
-      by-bounded j h (yes e) = omega (arith, top j e, sound.bounded (height - 1) (omega arith))
-      by-bounded j h (no e) = rw (below j e) (sound.bounded j h)
-
-  pub ran-nests :
-      i ≤ r → r ≤ limit → limit ≤ n → limit ≤ i + (65 - entry / 3) → n ≡ length sheet / 32 → ((j : ℕ) → i ≤ j → j < r → Plain Nests sheet names j) →
-      Ran sheet names (at Body.Message Item.Typed height) stack after i r
-  ran-nests first last most few all plain =
-      record {
-        least = first;
-        most = omega arith;
-        sound = deep-sound first (omega arith);
-        same = λ second. rw (starts, ends) (run-same Nests sheet names i r n first (omega arith) all plain deeper steps second);
-        ended = run-ended Nests sheet names i r n first (omega arith) all plain;
-      }
-    where
       steps : (k kind sub : ℕ) → k < r - i → InRun Nests kind → step (deeper k) (bare kind sub) ≡ Grammar.to (deeper (suc k))
       steps k kind sub l h =
-          let next : entry / 3 + suc k ≡ suc (entry / 3 + k) = omega arith in
-          rw next (nest_step (entry / 3 + k) (dues stack (height - 1)) kind sub (omega arith) h)
+          let next : depth + suc k ≡ suc (depth + k) = omega arith in
+          rw next (nest_step (depth + k) ds kind sub (omega arith) h)
+
+  ran-first : (part : Kind.Part) (depth : ℕ) (ds : List Due) → (room (due_at depth part ∷ ds) ≡ 0 → ⊥) → r ≤ i + room (due_at depth part ∷ ds) →
+      Ran sheet names (at Body.Message Item.Typed) (due_at depth part ∷ ds) (deepened (r - i) (due_at depth part ∷ ds)) i r
+  ran-first type depth ds some few = ran-deeper depth ds few
+  ran-first condition depth ds some few = absurd (some refl)
+  ran-first operand depth ds some few = absurd (some refl)
+
+  pub ran_nests : (ds after : List Due) → (room ds ≡ 0 → ⊥) → r ≤ i + room ds → after ≡ deepened (r - i) ds →
+      Ran sheet names (at Body.Message Item.Typed) ds after i r
+  ran_nests [] after some few e = absurd (some refl)
+  ran_nests (d ∷ ds) after some few e = rw e (ran-first d.part d.depth ds some few)
 
 -- no record is passed
-pub ran-none :
-    (sheet names : List ℕ) (s : State) (stack : List ℕ) (i n : ℕ) → Sound stack s.height → i ≤ n → n ≡ length sheet / 32 → Ran sheet names s stack stack i i
-ran-none sheet names s stack i n sound l all =
-    record { least = omega arith; most = omega arith; sound = sound; same = λ second. refl; ended = λ end h. h }
+pub ran_none : (sheet names : List ℕ) (s : State) (ds : List Due) (i n : ℕ) → i ≤ n → n ≡ length sheet / 32 → Ran sheet names s ds ds i i
+ran_none sheet names s ds i n l all = record { least = omega arith; most = omega arith; same = λ second. refl; ended = λ end h. h }
 
-pub ran-at :
-    (sheet names before after : List ℕ) (i r : ℕ) (s : State) (body : Body) → s.body ≡ body → Ran sheet names (at body s.item s.height) before after i r →
+pub ran_at :
+    (sheet names : List ℕ) (before after : List Due) (i r : ℕ) (s : State) (body : Body) → s.body ≡ body → Ran sheet names (at body s.item) before after i r →
     Ran sheet names s before after i r
-ran-at sheet names before after i r s body e h = subst (λ (b : Body). Ran sheet names (at b s.item s.height) before after i r) (sym e) h
+ran_at sheet names before after i r s body e h = subst (λ (b : Body). Ran sheet names (at b s.item) before after i r) (sym e) h
 
 -- a bit name where one may come
 pub ran_bits :
-    (sheet names stack : List ℕ) (item : Item) (height i r n : ℕ) → Sound stack height → n ≡ length sheet / 32 → item ≡ Item.BitNames →
-    (i ≤ r) × (r ≤ n) × ((j : ℕ) → i ≤ j → j < r → Plain BitNames sheet names j) → Ran sheet names (at Body.Message item height) stack stack i r
+    (sheet names : List ℕ) (ds : List Due) (item : Item) (i r n : ℕ) → n ≡ length sheet / 32 → item ≡ Item.BitNames →
+    (i ≤ r) × (r ≤ n) × ((j : ℕ) → i ≤ j → j < r → Plain BitNames sheet names j) → Ran sheet names (at Body.Message item) ds ds i r
 unfolding state_of
-ran_bits sheet names stack item height i r n sound all e passed =
-    rw e (ran-stays BitNames sheet names i r n passed.0 passed.1 all passed.2 (at Body.Message Item.BitNames height) stack sound (bit-step (dues stack height)))
+ran_bits sheet names ds item i r n all e passed =
+    rw e (ran-stays BitNames sheet names i r n passed.0 passed.1 all passed.2 (at Body.Message Item.BitNames) ds (bit-step ds))
 
 -- an imported name where one may come
-pub ran-imports :
-    (sheet names stack : List ℕ) (item : Item) (height i r n : ℕ) → Sound stack height → n ≡ length sheet / 32 → height ≡ 0 → item ≡ Item.Between →
-    (i ≤ r) × (r ≤ n) × ((j : ℕ) → i ≤ j → j < r → Plain Imports sheet names j) → Ran sheet names (at Body.Context item height) stack stack i r
-unfolding state_of dues
-ran-imports sheet names stack item height i r n sound all low e passed =
-    rw (e, low) (ran-stays Imports sheet names i r n passed.0 passed.1 all passed.2 (at Body.Context Item.Between 0) stack (rw low at sound) import-step)
+pub ran_imports :
+    (sheet names : List ℕ) (ds : List Due) (item : Item) (i r n : ℕ) → n ≡ length sheet / 32 → none_due ds ≡ true → item ≡ Item.Between →
+    (i ≤ r) × (r ≤ n) × ((j : ℕ) → i ≤ j → j < r → Plain Imports sheet names j) → Ran sheet names (at Body.Context item) ds ds i r
+unfolding state_of
+ran_imports sheet names [] item i r n all empty e passed =
+    rw e (ran-stays Imports sheet names i r n passed.0 passed.1 all passed.2 (at Body.Context Item.Between) [] import-step)
+ran_imports sheet names (d ∷ ds) item i r n all empty e passed = absurd (false≢true empty)
 
 -- what the tests of a record say
 both : (a b : Bool) → (a && b) ≡ true → (a ≡ true) × (b ≡ true)
@@ -282,21 +230,28 @@ module _ (sheet names : List ℕ) (i kind third : ℕ) (k : kind ≡ get_or (rec
   is-clean : eqb third 0 ≡ true → clean_in (record_bytes sheet i) ≡ true
   is-clean h = rw t at h
 
-  pub plain-named :
+  plain_named :
       (run : Run) (wanted end : ℕ) → ((n : ℕ) → n ≡ wanted → InRun run n) → end ≡ name_offset (record_bytes sheet i) + name_length (record_bytes sheet i) →
       (eqb third 0 && eqb kind wanted && leb end (length names)) ≡ true → Plain run sheet names i
-  plain-named run wanted end of-run he h =
+  plain_named run wanted end of-run he h =
       let front : ((eqb third 0 && eqb kind wanted) ≡ true) × (leb end (length names) ≡ true) = both (eqb third 0 && eqb kind wanted) (leb end (length names)) h in
       let first : (eqb third 0 ≡ true) × (eqb kind wanted ≡ true) = both (eqb third 0) (eqb kind wanted) front.0 in
       record {
         kind = of-run (kind_in (record_bytes sheet i)) (sym k ∙ eqb-true kind wanted first.1);
         clean = is-clean first.0;
-        fits = not-false (fits_in names (record_bytes sheet i)) (sym (name-fits names (record_bytes sheet i) end he (leb-true end (length names) front.1)));
+        fits = not-false (fits_in names (record_bytes sheet i)) (sym (name_fits names (record_bytes sheet i) end he (leb-true end (length names) front.1)));
       }
 
-  pub plain-nest : (eqb third 0 && (leb Kind.Optional kind && leb kind Kind.Set)) ≡ true → Plain Nests sheet names i
+  module _ (run : Run) (end : ℕ) (he : end ≡ name_offset (record_bytes sheet i) + name_length (record_bytes sheet i)) where
+    pub plain_import : run ≡ Imports → (eqb third 0 && eqb kind 2 && leb end (length names)) ≡ true → Plain run sheet names i
+    plain_import e h = rw e (plain_named Imports 2 end (λ n q. q) he h)
+
+    pub plain_bit_name : run ≡ BitNames → (eqb third 0 && eqb kind 22 && leb end (length names)) ≡ true → Plain run sheet names i
+    plain_bit_name e h = rw e (plain_named BitNames 22 end (λ n q. q) he h)
+
+  pub plain_nest : (eqb third 0 && (leb Kind.Optional kind && leb kind Kind.Set)) ≡ true → Plain Nests sheet names i
   unfolding fits_in any_of
-  plain-nest h =
+  plain_nest h =
       let first : (eqb third 0 ≡ true) × ((leb Kind.Optional kind && leb kind Kind.Set) ≡ true) = both (eqb third 0) (leb Kind.Optional kind && leb kind Kind.Set) h in
       let nest : within Kind.Optional Kind.Set (kind_in (record_bytes sheet i)) ≡ true = rw k at first.1 in
       record { kind = nest; clean = is-clean first.0; fits = rw (unnamed nest) }
@@ -305,10 +260,10 @@ module _ (sheet names : List ℕ) (i kind third : ℕ) (k : kind ≡ get_or (rec
       unnamed h = nest-cases (λ (n : ℕ). Kind.has_name n (sub_in (record_bytes sheet i)) ≡ false) (kind_in (record_bytes sheet i)) h refl refl refl refl
 
 -- one record more
-pub plain-next :
+pub plain_next :
     (run : Run) (sheet names : List ℕ) (i j : ℕ) → ((k : ℕ) → i ≤ k → k < j → Plain run sheet names k) → Plain run sheet names j →
     (k : ℕ) → i ≤ k → k < j + 1 → Plain run sheet names k
-plain-next run sheet names i j before here k l m = by (dec_lt k j)
+plain_next run sheet names i j before here k l m = by (dec_lt k j)
   where
     by : Dec (k < j) → Plain run sheet names k
     by (yes h) = before k l h

@@ -14,7 +14,8 @@ use Rattle.names.specs.NameTable.{name_table}
 use Rattle.names.specs.View.{context_by}
 use Rattle.names.specs.SameEnds.{SameEnds, Lasting}
 use Rattle.names.proofs.Renamed.{table-lasting, table-chains}
-use Rattle.refusals.specs.declared.pass.Passed.{Passed}
+use Rattle.rules.specs.declared.answer.Refused.{Refused}
+use Rattle.std.specs.Prelude.{Result, Ok}
 use Rattle.refusals.specs.Pass.{is_second, first_fault_by, passed_of}
 use Rattle.refusals.specs.Turned.{endless_by, refusal_by}
 use Rattle.refusals.proofs.Filled.{pass-filled}
@@ -65,23 +66,23 @@ module _ (sheet names : List ℕ) where
       go false e = ap (λ (x : Option Fault). in_turn x (is_long_names names) (is_wrong_length sheet)) (then_same e)
 
   -- what is told by a filled table
-  pub told-by-filled :
+  pub told_by_filled :
       (table : List ℕ) (told : Option Fault) → table ≡ name_table sheet names → told ≡ refusal_by table sheet names → told ≡ refusal sheet names
-  told-by-filled table told filled e = e ∙ ap (λ t. refusal_by t sheet names) filled ∙ refusal-filled
+  told_by_filled table told filled e = e ∙ ap (λ t. refusal_by t sheet names) filled ∙ refusal-filled
 
   -- behind rows 3 to 8, a chain that the filled table gives and that has not ended never ends
-  pub passed-lasting :
+  pub passed_lasting :
       (table : List ℕ) → table ≡ name_table sheet names → is_wrong_length sheet ≡ false →
-      (v : Passed) → passed_of v ≡ first_fault_by (is_second table) start 0 (records sheet names) → (end : ℕ) → v ≡ Passed.Accepted end →
+      (v : Result ℕ Refused) → passed_of v ≡ first_fault_by (is_second table) start 0 (records sheet names) → (end : ℕ) → v ≡ Ok end →
       Lasting (context_by table sheet)
-  passed-lasting table filled h v hv end q =
+  passed_lasting table filled h v hv end q =
       let clean : pass ≡ none =
       sym (pass-filled sheet names (short-sheet sheet h)) ∙ ap (λ t. first_fault_by (is_second t) start 0 (records sheet names)) (sym filled)
       ∙ sym hv ∙ ap passed_of q in
       rw filled (table-lasting sheet names (short-sheet sheet h) (whole-sheet sheet h) (clean-fits same_bytes start [] 0 (records sheet names) clean))
 
   -- the ends that a filled table leads to
-  pub ends-by-filled :
+  pub ends_by_filled :
       (table after : List ℕ) → table ≡ name_table sheet names → SameEnds (context_by table sheet) (context_by after sheet) →
       SameEnds (context_by (name_table sheet names) sheet) (context_by after sheet)
-  ends-by-filled table after filled same = rw (← filled) same
+  ends_by_filled table after filled same = rw (← filled) same

@@ -1,10 +1,9 @@
 -- What each answer of the code says, in the words of the definitions.
-use Rattle.std.specs.Prelude.{ℕ, Bool, true, false, eqb}
+use Rattle.std.specs.Prelude.{ℕ, Bool, true, false, Result, Ok, Err, eqb}
 use Rattle.std.proofs.Math.Option.{Option, some, none}
 use Rattle.rules.specs.Kind
 use Rattle.rules.specs.Answer.{number_of}
-use Rattle.refusals.specs.declared.own.Own.{Own}
-use Rattle.refusals.specs.declared.own.Own.TheVariants.{Sound, Fault}
+use Rattle.rules.specs.declared.answer.Refusal.{Refusal}
 
 -- what byte 1 is to be less than: how many subs the kind has; 256 for a kind without a sub, 0 where there is no such kind
 abbrev pub limited : Bool → ℕ → ℕ
@@ -14,6 +13,6 @@ abbrev pub sub_limit : ℕ → ℕ
 sub_limit kind = limited (Kind.known kind) (Kind.sub_count kind)
 
 -- the number of the row, if there is one
-abbrev pub own_of : Own → Option ℕ
-own_of Sound = none
-own_of (Fault why) = some (number_of why)
+abbrev pub own_of : Result (Unit {0}) Refusal → Option ℕ
+own_of (Ok passed) = none
+own_of (Err why) = some (number_of why)

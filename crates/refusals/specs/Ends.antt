@@ -1,5 +1,6 @@
 -- The ends of chains of named newtypes, as row 9 finds them.
-use Rattle.std.specs.Prelude.{ℕ, ◌-◌, ◌≡◌, true, List}
+use Rattle.std.specs.Prelude as std
+use Rattle.std.specs.Prelude.{ℕ, ◌≡◌, true, List}
 use Rattle.std.proofs.Math.Option.{none}
 use Rattle.rules.specs.Context.{behind, chain_end, never_ends}
 use Rattle.names.specs.View.{view_at, declarations_of, context_by}
@@ -10,10 +11,10 @@ pub record EndsAt (table sheet : List ℕ) (t e : ℕ) : Type 0 where
   pub end : chain_end (context_by table sheet) (declarations_of table) (view_at sheet t) ≡ view_at sheet e
   pub over : behind (context_by table sheet) (view_at sheet e) ≡ none
 
--- the place of that type, or 0 where the chain never ends
-pub record EndPlace (table sheet : List ℕ) (t place : ℕ) : Type 0 where
-  pub never : place ≡ 0 → never_ends (context_by table sheet) (view_at sheet t) ≡ true
-  pub ends : (place ≡ 0 → ⊥) → EndsAt table sheet t (place - 1)
+-- the record of that type, if the chain ends
+abbrev pub EndFound : List ℕ → List ℕ → ℕ → std.Option ℕ → Type 0
+EndFound table sheet t std.None = never_ends (context_by table sheet) (view_at sheet t) ≡ true
+EndFound table sheet t (std.Some e) = EndsAt table sheet t e
 
 -- the table leads to the same ends as before, and a chain that has not ended never does
 pub record Kept (sheet before after : List ℕ) : Type 0 where

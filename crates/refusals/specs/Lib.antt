@@ -1,5 +1,6 @@
 -- What the code's own types say, in the words of document 01's definitions.
 pub mod Answers
+pub mod Parts
 pub mod Due
 pub mod States
 pub mod Pass

@@ -1,18 +1,14 @@
 -- The first fault by rows 3 to 8, where it is looked up whether a declaration is the second of its name.
-use Rattle.std.specs.Prelude.{ℕ, suc, ◌/◌, ◌<◌, ◌≤◌, ◌≡◌, Bool, true, false, not, ◌&&◌, List, [], ◌∷◌, length, eqb}
+use Rattle.std.specs.Prelude.{ℕ, suc, ◌/◌, ◌<◌, ◌≤◌, ◌≡◌, Bool, true, false, not, ◌&&◌, List, [], ◌∷◌, length, Result, Ok, Err, eqb}
 use Rattle.std.proofs.Math.Option.{Option, some, none}
 use Rattle.rules.specs.Kind
 use Rattle.rules.specs.Sub
-use Rattle.rules.specs.Record.{Rec, is, record_size, record_bytes, kind_in, sub_in}
+use Rattle.rules.specs.Record.{Rec, is, is_of, record_size}
 use Rattle.rules.specs.Grammar as Grammar
 use Rattle.rules.specs.Refusals.{Fault, own_fault}
 use Rattle.rules.specs.Answer.{number_of}
-use Rattle.names.specs.View.{entry_of, declaration_part}
-use Rattle.refusals.specs.declared.state.Step.{Step}
-use Rattle.refusals.specs.declared.pass.Passed.{Passed}
-use Rattle.refusals.specs.declared.verdict.Verdict.{Verdict}
-use Rattle.refusals.specs.declared.verdict.Verdict.TheVariants.{Accepted, Refused}
-use Rattle.rules.specs.declared.answer.Refusal.TheVariants.{SecondDeclaration}
+use Rattle.names.specs.View.{entry_of, declaration_part, view_at}
+use Rattle.rules.specs.declared.answer.Refused.{Refused}
 
 -- by the table, the first declaration of record i's name is another one
 abbrev pub is_second : List ℕ → ℕ → Bool
@@ -22,10 +18,6 @@ is_second table i = not (eqb (entry_of declaration_part table i) (suc i))
 abbrev pub or_second : Bool → Grammar.Step Grammar.State → Grammar.Step Grammar.State
 or_second second (Grammar.fault n) = Grammar.fault n
 or_second second (Grammar.to t) = elim second [ true ↦ Grammar.fault 8 | false ↦ Grammar.to t ]
-
-abbrev pub declared_to : Bool → Step → Step
-declared_to second (Step.Fault why) = Step.Fault why
-declared_to second (Step.To body item height) = elim second [ true ↦ Step.Fault SecondDeclaration | false ↦ Step.To body item height ]
 
 module _ {N P : Type 0} where
   -- rows 3 to 8 at the next record
@@ -41,21 +33,25 @@ module _ {N P : Type 0} where
         | Grammar.to t ↦ first_fault_by second t (suc i) rs
       ]
 
+-- a refusal at a record
+abbrev pub fault_of : Refused → Fault
+fault_of why = record { number = number_of why.refusal; index = why.index }
+
 -- of the records before record i those from `end` on are no newtypes
 pub record Ended (sheet : List ℕ) (end i : ℕ) : Type 0 where
   pub within : end ≤ i
-  pub none : (j : ℕ) → end ≤ j → j < i → kind_in (record_bytes sheet j) ≡ Kind.Declaration → sub_in (record_bytes sheet j) ≡ Sub.Newtype → ⊥
+  pub none : (j : ℕ) → end ≤ j → j < i → is_of Kind.Declaration Sub.Newtype (view_at sheet j) ≡ false
 
 -- what the pass finds
-abbrev pub passed_of : Passed → Option Fault
-passed_of (Passed.Accepted end) = none
-passed_of (Passed.Refused why index) = some (record { number = number_of why; index = index })
+abbrev pub passed_of : Result ℕ Refused → Option Fault
+passed_of (Ok end) = none
+passed_of (Err why) = some (fault_of why)
 
-abbrev pub EndSound : Passed → List ℕ → Type 0
-EndSound (Passed.Accepted end) sheet = Ended sheet end (length sheet / record_size)
-EndSound (Passed.Refused why index) sheet = Unit {0}
+abbrev pub EndSound : Result ℕ Refused → List ℕ → Type 0
+EndSound (Ok end) sheet = Ended sheet end (length sheet / record_size)
+EndSound (Err why) sheet = Unit {0}
 
--- what a verdict says
-abbrev pub verdict_of : Verdict → Option Fault
-verdict_of Accepted = none
-verdict_of (Refused why index) = some (record { number = number_of why; index = index })
+-- what is said of a sheet and a names text
+abbrev pub verdict_of : Result (Unit {0}) Refused → Option Fault
+verdict_of (Ok accepted) = none
+verdict_of (Err why) = some (fault_of why)

@@ -8,7 +8,7 @@ use Rattle.refusals.specs.declared.runs.Run.TheVariants.{Imports, BitNames, Nest
 use Rattle.refusals.specs.declared.state.Body.{Body}
 use Rattle.refusals.specs.declared.state.Item.{Item}
 use Rattle.refusals.specs.declared.state.State.{State}
-use Rattle.refusals.specs.Due.{Sound}
+use Rattle.rules.specs.Grammar.{Due}
 use Rattle.refusals.specs.States.{state_of}
 use Rattle.refusals.specs.Pass.{first_fault_by, Ended}
 
@@ -24,15 +24,14 @@ pub record Plain (run : Run) (sheet names : List ℕ) (i : ℕ) : Type 0 where
   pub clean : clean_in (record_bytes sheet i) ≡ true
   pub fits : fits_in names (record_bytes sheet i) ≡ true
 
-abbrev pub at : Body → Item → ℕ → State
-at body item height = record { body = body; item = item; height = height }
+abbrev pub at : Body → Item → State
+at body item = record { body = body; item = item }
 
--- What is to find from record r on, with the stack as it is after, is what was to find from record i on, with the stack as it was before. No record
+-- What is to find from record r on, with the parts that are due after, is what was to find from record i on, with those that were due before. No record
 -- between is a newtype.
-pub record Ran (sheet names : List ℕ) (s : State) (before after : List ℕ) (i r : ℕ) : Type 0 where
+pub record Ran (sheet names : List ℕ) (s : State) (before after : List Due) (i r : ℕ) : Type 0 where
   pub least : i ≤ r
   pub most : r ≤ length sheet / record_size
-  pub sound : Sound after s.height
   pub same :
       (second : ℕ → Bool) →
       first_fault_by second (state_of s after) r (drop r (records sheet names)) ≡ first_fault_by second (state_of s before) i (drop i (records sheet names))

@@ -1,18 +1,15 @@
 -- The states of the grammar, as the code holds them.
-use Rattle.std.specs.Prelude.{ℕ, ◌≡◌, Bool, true, false, not, ◌||◌, List, [], ◌∷◌, eqb}
+use Rattle.std.specs.Prelude.{ℕ, ◌≡◌, Bool, true, false, not, ◌||◌, List, [], ◌∷◌, Result, Ok, Err, eqb}
 use Rattle.rules.specs.Words.{within}
 use Rattle.rules.specs.Kind
 use Rattle.rules.specs.Kind.{condition}
 use Rattle.rules.specs.Grammar as Grammar
-use Rattle.rules.specs.Grammar.{Due, due_at, TypeState, FieldListState}
+use Rattle.rules.specs.Grammar.{Due, due_at, none_due, TypeState, FieldListState}
 use Rattle.rules.specs.Answer.{number_of}
 use Rattle.refusals.specs.declared.state.Body.{Body}
 use Rattle.refusals.specs.declared.state.Item.{Item}
 use Rattle.refusals.specs.declared.state.State.{State}
-use Rattle.refusals.specs.declared.state.PartStep.{PartStep}
-use Rattle.refusals.specs.declared.state.ItemStep.{ItemStep}
-use Rattle.refusals.specs.declared.state.Step.{Step}
-use Rattle.refusals.specs.Due.{dues, Sound}
+use Rattle.rules.specs.declared.answer.Refusal.{Refusal}
 
 -- in a type, a bit name may come next
 abbrev pub is_bits : Item → Bool
@@ -42,15 +39,6 @@ field_list_of Item.Annotated ds = Grammar.field (Grammar.annotations true)
 field_list_of Item.Typed ds = Grammar.field (Grammar.typed (type_with false ds))
 field_list_of Item.BitNames ds = Grammar.field (Grammar.typed (type_with true ds))
 field_list_of Item.Conditioned ds = Grammar.field (Grammar.conditioned ds)
-
--- a field list may end there
-abbrev pub done_at : Item → ℕ → Bool
-done_at Item.Between height = true
-done_at Item.Opened height = false
-done_at Item.Annotated height = false
-done_at Item.Typed height = eqb height 0
-done_at Item.BitNames height = eqb height 0
-done_at Item.Conditioned height = eqb height 0
 
 -- the item that a record of the kind begins
 abbrev pub begun_by : ℕ → Item
@@ -86,48 +74,27 @@ in_fields Body.Variant kind = not (within Kind.Variant Kind.Tombstone kind)
 in_fields Body.Newtype kind = false
 
 -- the type of a message's field goes on with a type
-pub record GoesOn (body : Body) (item : Item) (height kind : ℕ) : Type 0 where
-  pub message : body ≡ Body.Message
-  pub typed : item ≡ Item.Typed
-  pub some : height ≡ 0 → ⊥
+pub record GoesOn (s : State) (ds : List Due) (kind : ℕ) : Type 0 where
+  pub message : s.body ≡ Body.Message
+  pub typed : s.item ≡ Item.Typed
+  pub some : none_due ds ≡ false
   pub type : Kind.is_type kind ≡ true
 
-unfoldable pub state_of : State → List ℕ → Grammar.State
-state_of s stack = in_body s.body s.item (dues stack s.height)
-
--- the same step, in an item or in a body
-abbrev pub moved_to : Item → PartStep → ItemStep
-moved_to item (PartStep.To height) = ItemStep.To item height
-moved_to item (PartStep.Fault why) = ItemStep.Fault why
-
-abbrev pub taken_to : Body → ItemStep → Step
-taken_to body (ItemStep.To item height) = Step.To body item height
-taken_to body (ItemStep.Fault why) = Step.Fault why
+unfoldable pub state_of : State → List Due → Grammar.State
+state_of s ds = in_body s.body s.item ds
 
 -- a step in a field list, and a step of the machine
-abbrev pub item_step_of : ItemStep → List ℕ → Grammar.Step FieldListState
-item_step_of (ItemStep.To item height) stack = Grammar.to (field_list_of item (dues stack height))
-item_step_of (ItemStep.Fault why) stack = Grammar.fault (number_of why)
+abbrev pub item_step_of : Result Item Refusal → List Due → Grammar.Step FieldListState
+item_step_of (Ok item) ds = Grammar.to (field_list_of item ds)
+item_step_of (Err why) ds = Grammar.fault (number_of why)
 
-abbrev pub ItemSound : ItemStep → List ℕ → Type 0
-ItemSound (ItemStep.To item height) stack = Sound stack height
-ItemSound (ItemStep.Fault why) stack = Unit {0}
-
-abbrev pub step_of : Step → List ℕ → Grammar.Step Grammar.State
-step_of (Step.To body item height) stack = Grammar.to (state_of (record { body = body; item = item; height = height }) stack)
-step_of (Step.Fault why) stack = Grammar.fault (number_of why)
-
-abbrev pub StepSound : Step → List ℕ → Type 0
-StepSound (Step.To body item height) stack = Sound stack height
-StepSound (Step.Fault why) stack = Unit {0}
-
--- whatever lies in the stack, with nothing due
-abbrev pub Leads : Step → Grammar.Step Grammar.State → Type 0
-Leads r x = (stack : List ℕ) → Sound stack 0 → (step_of r stack ≡ x) × StepSound r stack
+abbrev pub step_of : Result State Refusal → List Due → Grammar.Step Grammar.State
+step_of (Ok s) ds = Grammar.to (state_of s ds)
+step_of (Err why) ds = Grammar.fault (number_of why)
 
 -- before the first record
 abbrev pub start_state : State
-start_state = record { body = Body.Context; item = Item.Between; height = 0 }
+start_state = record { body = Body.Context; item = Item.Between }
 
 -- an enum, past its backing or before it
 abbrev pub enum_of : Bool → Grammar.EnumState

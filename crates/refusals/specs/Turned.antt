@@ -1,5 +1,6 @@
 -- Why a sheet and a names text are turned down, by a table of any content: rows 8 and 9 ask the table what is declared.
-use Rattle.std.specs.Prelude.{ℕ, zero, suc, ◌/◌, true, false, List, length}
+use Rattle.std.specs.Prelude as std
+use Rattle.std.specs.Prelude.{ℕ, ◌/◌, true, false, List, length}
 use Rattle.std.proofs.Math.Option.{Option, some, none}
 use Rattle.rules.specs.declared.span.Span.{Span}
 use Rattle.rules.specs.Record.{Rec, record_size, records}
@@ -8,10 +9,10 @@ use Rattle.rules.specs.Refusals.{Fault, is_wrong_length, is_long_names, endless_
 use Rattle.names.specs.View.{view_at, view_of, context_by}
 use Rattle.refusals.specs.Pass.{is_second, first_fault_by}
 
--- the record at a place, which is its index and one more; 0 is none
-abbrev pub placed : List ℕ → ℕ → Option (Rec ℕ Span)
-placed sheet zero = none
-placed sheet (suc i) = some (view_at sheet i)
+-- the record at an index, if there is one
+abbrev pub record_of : List ℕ → std.Option ℕ → Option (Rec ℕ Span)
+record_of sheet std.None = none
+record_of sheet (std.Some i) = some (view_at sheet i)
 
 -- row 9
 unfoldable pub endless_by : List ℕ → List ℕ → Option Fault

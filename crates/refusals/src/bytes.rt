@@ -1,10 +1,16 @@
 // Numbers in the bytes of a record that the sheet has.
-ghost use Rattle.std.specs.Prelude.{◌≡◌, ◌+◌, ◌*◌, ◌/◌, ◌≤◌, ◌<◌, length, get_or};
-ghost use Rattle.rules.specs.Record.{number_at, name_length, name_offset, record_bytes};
+ghost use Rattle.std.specs.Prelude.{◌≡◌, ◌+◌, ◌/◌, ◌≤◌, ◌<◌, length, get_or};
+ghost use Rattle.rules.specs.Record.{number_at, name_length, name_offset, record_bytes, is_of};
+ghost use Rattle.names.specs.View.{view_at};
 
 use rules::Sheet;
+use sheet::kinds;
+
+// The sub of a declaration that is a newtype.
+pub const NEWTYPE: u8 = 4;
 
 // The byte at `at` of record `i`.
+#[tactic(auto, using(crate::proofs::RecordBytes::byte_read))]
 pub fn byte(sheet: &[u8], i: usize, at: usize) -> u8
     requires { (i < length sheet.now / 32) × (at < 32) }
     ensures { result ≡ get_or (record_bytes sheet.now i) at 0 }
@@ -12,32 +18,36 @@ pub fn byte(sheet: &[u8], i: usize, at: usize) -> u8
     sheet[Sheet::RECORD * i + at]
 }
 
-// The number in four bytes.
-fn joined(a: u8, b: u8, c: u8, d: u8) -> u32
-    ensures { result ≡ a + 256 * (b + 256 * (c + 256 * d)) }
-{
-    a as u32 + 256 * (b as u32) + 65536 * (c as u32) + 16777216 * (d as u32)
-}
-
 // The number in the four bytes from `at` on of record `i`.
+#[tactic(auto, using(crate::proofs::RecordBytes::number_4))]
 fn word(sheet: &[u8], i: usize, at: usize) -> u32
     requires { (i < length sheet.now / 32) × (at ≤ 28) }
     ensures { result ≡ number_at at 4 (record_bytes sheet.now i) }
 {
-    joined(
+    u32::from_le_bytes([
         byte(sheet, i, at),
         byte(sheet, i, at + 1),
         byte(sheet, i, at + 2),
         byte(sheet, i, at + 3),
-    )
+    ])
 }
 
 // The value's eight bytes, whatever the kind.
+#[tactic(auto, using(crate::proofs::RecordBytes::number_8))]
 pub fn value(sheet: &[u8], i: usize) -> u64
     requires { i < length sheet.now / 32 }
     ensures { result ≡ number_at 24 8 (record_bytes sheet.now i) }
 {
-    word(sheet, i, 24) as u64 + 4294967296 * (word(sheet, i, 28) as u64)
+    u64::from_le_bytes([
+        byte(sheet, i, 24),
+        byte(sheet, i, 25),
+        byte(sheet, i, 26),
+        byte(sheet, i, 27),
+        byte(sheet, i, 28),
+        byte(sheet, i, 29),
+        byte(sheet, i, 30),
+        byte(sheet, i, 31),
+    ])
 }
 
 // Where the name part ends in the names text, whatever the kind.
@@ -45,5 +55,13 @@ pub fn name_end(sheet: &[u8], i: usize) -> usize
     requires { i < length sheet.now / 32 }
     ensures { result ≡ name_offset (record_bytes sheet.now i) + name_length (record_bytes sheet.now i) }
 {
-    word(sheet, i, 4) as usize + byte(sheet, i, 2) as usize
+    word(sheet, i, 4) as usize + usize::from(byte(sheet, i, 2))
+}
+
+// Whether record `i` is a newtype that is declared.
+#[tactic(auto, unfolding(names::specs::View::view_at))]
+pub fn is_newtype(sheet: &[u8], i: usize) -> bool
+    ensures { result ≡ is_of 1 4 (view_at sheet.now i) }
+{
+    (sheet::kind(sheet, i) == kinds::DECLARATION) && (sheet::sub(sheet, i) == NEWTYPE)
 }

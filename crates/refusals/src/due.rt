@@ -1,86 +1,172 @@
-// The parts that are due, as a stack: an entry is three times the part's depth, and 0 for a type, 1 for a condition, 2 for an operand.
-ghost use Rattle.std.specs.Prelude.{◌≡◌, ◌<◌};
+// The parts that are due.
+ghost use Rattle.std.specs.Prelude.{◌≡◌, [], ◌∷◌, false, ◌≤◌};
 ghost use Rattle.rules.specs.Kind;
-ghost use Rattle.rules.specs.Grammar.{part_step, type_step, lifted};
-ghost use Rattle.refusals.specs.Due.{bare, part_at, part_number, dues, Sound, Taken, part_step_of, PartSound};
+ghost use Rattle.rules.specs.Grammar.{due_at, none_due, part_step, type_step, lifted};
+ghost use Rattle.refusals.specs.Parts.{part_in, part_of};
+ghost use Rattle.refusals.specs.Due.{bare, Taken, part_step_of, room, deepened};
 ghost use Rattle.refusals.specs.States.{bits_after, type_with};
 
-use crate::state::PartStep;
 use rules::Refusal;
 use sheet::kinds;
+use std::marker::Model;
+
+#[derive(Clone, Copy, PartialEq, Eq)]
+pub enum Part {
+    TypeExpr,
+    Condition,
+    Operand,
+}
+
+// A part that is due, with its depth.
+#[derive(Clone, Copy)]
+pub struct Entry {
+    pub depth: u8,
+    pub part: Part,
+}
+
+// The parts that are due: the first `height` entries, the last of them first. No part of depth 66 is ever due, and each entry is deeper than the
+// number of those below it, so that 66 entries hold all.
+#[derive(Drop)]
+pub struct Due {
+    entries: [Entry; 66],
+    height: usize,
+}
+
+impl Model for Due {
+    ghost use Rattle.std.specs.Prelude.{List};
+    ghost use Rattle.rules.specs.Grammar as Grammar;
+    ghost use Rattle.refusals.specs.Parts.{dues, Sound};
+
+    ghost Value = { List Grammar.Due };
+
+    ghost view = { λ d. dues d.entries d.height };
+
+    ghost invariant = { λ d. Sound d.entries d.height };
+}
 
 // Whether the kind is one of the part.
-fn is_part(part: u8, kind: u8) -> bool
-    ensures { result ≡ Kind.is_part (part_at part) kind }
+fn is_part(part: Part, kind: u8) -> bool
+    ensures { result ≡ Kind.is_part (part_in part) kind }
 {
     match part {
-        0 => sheet::is_type(kind),
-        1 => sheet::is_condition(kind),
-        _ => kind == kinds::OPERAND,
+        Part::TypeExpr => sheet::is_type(kind),
+        Part::Condition => sheet::is_condition(kind),
+        Part::Operand => kind == kinds::OPERAND,
     }
 }
 
 // Which part the parts of a kind are.
-fn part_of(kind: u8) -> u8
-    ensures { (result ≡ part_number kind) × (result < 3) }
+fn part_of(kind: u8) -> Part
+    ensures { result ≡ part_of kind }
 {
     if kind < kinds::AND {
-        return 0;
+        return Part::TypeExpr;
     }
     if kind < kinds::CMP {
-        return 1;
+        return Part::Condition;
     }
-    2
+    Part::Operand
 }
 
-// The record is such a part: it takes the place of the first part that is due, and its own parts are due before the others, one deeper.
-fn taken(due: &mut [u8; 66], height: usize, kind: u8, part: u8) -> PartStep
-    requires { Taken due.old height kind part }
-    ensures { (part_step_of result due.new ≡ part_step (dues due.old height) (bare kind 0)) × PartSound result due.new }
-{
-    let top = height - 1;
-    let depth = due[top] / 3;
-    if 64 < depth {
-        return PartStep::Fault(Refusal::TooDeep); // row 7
-    }
-    let deeper = 3 * (depth + 1) + part;
-    due[top] = deeper;
-    due[height] = deeper;
-    PartStep::To(top + sheet::part_count(kind) as usize)
-}
-
-// The first part that is due: the record, if it is such a part. A type's parts are types, so that their number is not asked for.
-pub fn part_step(due: &mut [u8; 66], height: usize, kind: u8) -> PartStep
-    requires { Sound due.old height }
-    ensures { (part_step_of result due.new ≡ part_step (dues due.old height) (bare kind 0)) × PartSound result due.new }
-{
-    if height == 0 {
-        return PartStep::Fault(Refusal::OutOfOrder); // row 6
-    }
-    let part = due[height - 1] % 3;
-    if part == 0 {
-        if sheet::is_type(kind) {
-            return taken(due, height, kind, 0);
+impl Due {
+    // Nothing is due.
+    #[tactic(auto, unfolding(crate::specs::Parts::dues))]
+    pub fn new() -> Due
+        ensures { result ≡ [] }
+    {
+        let none = Entry {
+            depth: 0,
+            part: Part::TypeExpr,
+        };
+        Due {
+            entries: [none; 66],
+            height: 0,
         }
-        return PartStep::Fault(Refusal::OutOfOrder); // row 6
     }
-    if !is_part(part, kind) {
-        return PartStep::Fault(Refusal::OutOfOrder); // row 6
-    }
-    let parts = part_of(kind);
-    taken(due, height, kind, parts)
-}
 
-// A type: a bit name where one may come, or the first part that is due.
-pub fn type_step(due: &mut [u8; 66], bits: bool, height: usize, kind: u8) -> PartStep
-    requires { Sound due.old height }
-    ensures { (lifted (type_with (bits_after kind)) (part_step_of result due.new) ≡ type_step (type_with bits (dues due.old height)) (bare kind 0)) × PartSound result due.new }
-{
-    if kind == kinds::BIT_NAME {
-        if bits {
-            return PartStep::To(height);
-        }
-        return PartStep::Fault(Refusal::OutOfOrder); // row 6
+    // Whether nothing is due.
+    #[tactic(auto, using(crate::proofs::Stack::height_none))]
+    pub fn is_empty(&self) -> bool
+        ensures { result ≡ none_due self.now }
+    {
+        self.height == 0
     }
-    part_step(due, height, kind)
+
+    // One part is due, of depth 1.
+    pub fn begin(&mut self, part: Part)
+        ensures { self.new ≡ due_at 1 (part_in part) ∷ [] }
+    {
+        self.entries[0] = Entry { depth: 1, part };
+        self.height = 1;
+    }
+
+    // The record is the first part that is due: its own parts take its place, one deeper.
+    fn take(&mut self, kind: u8, part: Part) -> Result<(), Refusal>
+        requires { Taken self.old kind part }
+        ensures { part_step_of result self.new ≡ part_step self.old (bare kind 0) }
+    {
+        let top = self.height - 1;
+        let depth = self.entries[top].depth;
+        if 64 < depth {
+            return Err(Refusal::TooDeep); // row 7
+        }
+        let deeper = Entry {
+            depth: depth + 1,
+            part,
+        };
+        self.entries[top] = deeper;
+        self.entries[top + 1] = deeper;
+        self.height = top + sheet::part_count(kind) as usize;
+        Ok(())
+    }
+
+    // The first part that is due: the record, if it is such a part.
+    pub fn part_step(&mut self, kind: u8) -> Result<(), Refusal>
+        ensures { part_step_of result self.new ≡ part_step self.old (bare kind 0) }
+    {
+        if self.height == 0 {
+            return Err(Refusal::OutOfOrder); // row 6
+        }
+        if !is_part(self.entries[self.height - 1].part, kind) {
+            return Err(Refusal::OutOfOrder); // row 6
+        }
+        self.take(kind, part_of(kind))
+    }
+
+    // A type: a bit name where one may come, or the first part that is due.
+    #[tactic(auto, unfolding(rules::specs::Grammar::type_step))]
+    pub fn type_step(&mut self, bits: bool, kind: u8) -> Result<(), Refusal>
+        ensures { lifted (type_with (bits_after kind)) (part_step_of result self.new) ≡ type_step (type_with bits self.old) (bare kind 0) }
+    {
+        if kind == kinds::BIT_NAME {
+            if bits {
+                return Ok(());
+            }
+            return Err(Refusal::OutOfOrder); // row 6
+        }
+        self.part_step(kind)
+    }
+
+    // How many types of one part may come, each in the one before; none where no type is due.
+    pub fn room(&self) -> u8
+        ensures { result ≡ room self.now }
+    {
+        if self.height == 0 {
+            return 0;
+        }
+        let top = self.entries[self.height - 1];
+        match top.part {
+            Part::TypeExpr => 65 - top.depth,
+            _ => 0,
+        }
+    }
+
+    // So many such types have come.
+    pub fn deepen(&mut self, by: u8)
+        requires some { none_due self.old ≡ false }
+        requires fits { by ≤ room self.old }
+        ensures { self.new ≡ deepened by self.old }
+    {
+        self.entries[self.height - 1].depth += by;
+    }
 }

@@ -1,25 +1,22 @@
 // The items of a field list.
 ghost use Rattle.std.specs.Prelude.{◌≡◌};
-ghost use Rattle.rules.specs.Grammar.{part_step, type_step, field_step, field_list_step, in_field_item, lifted, field, typed, conditioned, annotations, type_due};
-ghost use Rattle.refusals.specs.Due.{bare, dues, Sound};
-ghost use Rattle.refusals.specs.States.{field_list_of, done_at, begun_by, condition_due, type_with, type_item, bits_after, moved_to, item_step_of, ItemSound};
+ghost use Rattle.rules.specs.Grammar.{part_step, type_step, field_step, field_list_step, field_list_done, in_field_item, lifted, field, typed, conditioned, annotations, type_due};
+ghost use Rattle.refusals.specs.Due.{bare};
+ghost use Rattle.refusals.specs.States.{field_list_of, begun_by, condition_due, type_with, type_item, bits_after, item_step_of};
 
-use crate::due::{part_step, type_step};
-use crate::state::{Item, ItemStep, PartStep};
+use crate::due::{Due, Part};
+use crate::state::Item;
 use rules::Refusal;
 use sheet::kinds;
 
 // Whether the field list may end there.
-pub fn is_done(item: Item, height: usize) -> bool
-    ensures { result ≡ done_at item height }
+pub fn is_done(due: &Due, item: Item) -> bool
+    ensures { result ≡ field_list_done (field_list_of item due.now) }
 {
     match item {
         Item::Between => true,
-        Item::Opened => false,
-        Item::Annotated => false,
-        Item::Typed => height == 0,
-        Item::BitNames => height == 0,
-        Item::Conditioned => height == 0,
+        Item::Opened | Item::Annotated => false,
+        Item::Typed | Item::BitNames | Item::Conditioned => due.is_empty(),
     }
 }
 
@@ -33,101 +30,81 @@ pub fn after_type(kind: u8) -> Item
     Item::Typed
 }
 
-// The step of a part, in that item.
-fn moved(item: Item, step: PartStep) -> ItemStep
-    ensures { result ≡ moved_to item step }
-{
-    match step {
-        PartStep::To(height) => ItemStep::To { item, height },
-        PartStep::Fault(why) => ItemStep::Fault(why),
-    }
-}
-
 // A field in its type.
-fn typed_step(due: &mut [u8; 66], bits: bool, height: usize, kind: u8) -> ItemStep
-    requires { Sound due.old height }
-    ensures { (item_step_of result due.new ≡ lifted (λ t. field (typed t)) (type_step (type_with bits (dues due.old height)) (bare kind 0))) × ItemSound result due.new }
+fn typed_step(due: &mut Due, bits: bool, kind: u8) -> Result<Item, Refusal>
+    ensures { item_step_of result due.new ≡ lifted (λ t. field (typed t)) (type_step (type_with bits due.old) (bare kind 0)) }
 {
-    let step = type_step(due, bits, height, kind);
-    let item = after_type(kind);
-    moved(item, step)
+    due.type_step(bits, kind)?;
+    Ok(after_type(kind))
 }
 
 // A field's type begins: one is due, of depth 1.
-fn type_begins(due: &mut [u8; 66], kind: u8) -> ItemStep
-    requires { Sound due.old 0 }
-    ensures { (item_step_of result due.new ≡ lifted (λ t. field (typed t)) (type_step type_due (bare kind 0))) × ItemSound result due.new }
+fn type_begins(due: &mut Due, kind: u8) -> Result<Item, Refusal>
+    ensures { item_step_of result due.new ≡ lifted (λ t. field (typed t)) (type_step type_due (bare kind 0)) }
 {
-    due[0] = 3;
-    typed_step(due, false, 1, kind)
+    due.begin(Part::TypeExpr);
+    typed_step(due, false, kind)
 }
 
 // A field after its annotations: one more of them, an argument where one may come, or the type.
-fn annotated_step(due: &mut [u8; 66], arguments: bool, kind: u8) -> ItemStep
-    requires { Sound due.old 0 }
-    ensures { (item_step_of result due.new ≡ lifted field (field_step (annotations arguments) (bare kind 0))) × ItemSound result due.new }
+#[tactic(auto, using(crate::proofs::Items::lifted_twice), unfolding(rules::specs::Grammar::field_step))]
+fn annotated_step(due: &mut Due, arguments: bool, kind: u8) -> Result<Item, Refusal>
+    ensures { item_step_of result due.new ≡ lifted field (field_step (annotations arguments) (bare kind 0)) }
 {
     if kind == kinds::ANNOTATION {
-        return ItemStep::To {
-            item: Item::Annotated,
-            height: 0,
-        };
+        return Ok(Item::Annotated);
     }
     if kind == kinds::ARGUMENT {
         if arguments {
-            return ItemStep::To {
-                item: Item::Annotated,
-                height: 0,
-            };
+            return Ok(Item::Annotated);
         }
-        return ItemStep::Fault(Refusal::OutOfOrder); // row 6
+        return Err(Refusal::OutOfOrder); // row 6
     }
     type_begins(due, kind)
 }
 
 // A field in its condition.
-fn conditioned_step(due: &mut [u8; 66], height: usize, kind: u8) -> ItemStep
-    requires { Sound due.old height }
-    ensures { (item_step_of result due.new ≡ lifted (λ ds. field (conditioned ds)) (part_step (dues due.old height) (bare kind 0))) × ItemSound result due.new }
+fn conditioned_step(due: &mut Due, kind: u8) -> Result<Item, Refusal>
+    ensures { item_step_of result due.new ≡ lifted (λ ds. field (conditioned ds)) (part_step due.old (bare kind 0)) }
 {
-    moved(Item::Conditioned, part_step(due, height, kind))
+    due.part_step(kind)?;
+    Ok(Item::Conditioned)
 }
 
 // A field's condition begins: one is due, of depth 1.
-fn condition_begins(due: &mut [u8; 66], kind: u8) -> ItemStep
-    requires { Sound due.old 0 }
-    ensures { (item_step_of result due.new ≡ lifted (λ ds. field (conditioned ds)) (part_step condition_due (bare kind 0))) × ItemSound result due.new }
+fn condition_begins(due: &mut Due, kind: u8) -> Result<Item, Refusal>
+    ensures { item_step_of result due.new ≡ lifted (λ ds. field (conditioned ds)) (part_step condition_due (bare kind 0)) }
 {
-    due[0] = 4;
-    conditioned_step(due, 1, kind)
+    due.begin(Part::Condition);
+    conditioned_step(due, kind)
 }
 
 // A field in its type: the type goes on, or a condition begins where the type has ended.
-fn type_or_condition(due: &mut [u8; 66], bits: bool, height: usize, kind: u8) -> ItemStep
-    requires { Sound due.old height }
-    ensures { (item_step_of result due.new ≡ lifted field (field_step (typed (type_with bits (dues due.old height))) (bare kind 0))) × ItemSound result due.new }
+#[tactic(auto, using(crate::proofs::Items::lifted_twice), unfolding(rules::specs::Grammar::field_step))]
+fn type_or_condition(due: &mut Due, bits: bool, kind: u8) -> Result<Item, Refusal>
+    ensures { item_step_of result due.new ≡ lifted field (field_step (typed (type_with bits due.old)) (bare kind 0)) }
 {
     if kind == kinds::BIT_NAME {
-        return typed_step(due, bits, height, kind);
+        return typed_step(due, bits, kind);
     }
-    if height == 0 {
+    if due.is_empty() {
         return condition_begins(due, kind);
     }
-    typed_step(due, bits, height, kind)
+    typed_step(due, bits, kind)
 }
 
 // A record within an item.
-fn within_item(due: &mut [u8; 66], item: Item, height: usize, kind: u8) -> ItemStep
-    requires { Sound due.old height }
-    ensures { (item_step_of result due.new ≡ in_field_item (field_list_of item (dues due.old height)) (bare kind 0)) × ItemSound result due.new }
+#[tactic(auto, using(crate::proofs::Items::lifted_twice), unfolding(rules::specs::Grammar::field_step))]
+fn within_item(due: &mut Due, item: Item, kind: u8) -> Result<Item, Refusal>
+    ensures { item_step_of result due.new ≡ in_field_item (field_list_of item due.old) (bare kind 0) }
 {
     match item {
-        Item::Between => ItemStep::Fault(Refusal::OutOfOrder), // row 6
+        Item::Between => Err(Refusal::OutOfOrder), // row 6
         Item::Opened => annotated_step(due, false, kind),
         Item::Annotated => annotated_step(due, true, kind),
-        Item::Typed => type_or_condition(due, false, height, kind),
-        Item::BitNames => type_or_condition(due, true, height, kind),
-        Item::Conditioned => conditioned_step(due, height, kind),
+        Item::Typed => type_or_condition(due, false, kind),
+        Item::BitNames => type_or_condition(due, true, kind),
+        Item::Conditioned => conditioned_step(due, kind),
     }
 }
 
@@ -142,16 +119,15 @@ fn begun(kind: u8) -> Item
 }
 
 // A field list: an item begins where the one before may end, or goes on.
-pub fn field_list_step(due: &mut [u8; 66], item: Item, height: usize, kind: u8) -> ItemStep
-    requires { Sound due.old height }
-    ensures { (item_step_of result due.new ≡ field_list_step (field_list_of item (dues due.old height)) (bare kind 0)) × ItemSound result due.new }
+#[tactic(auto, unfolding(rules::specs::Grammar::field_list_step))]
+pub fn field_list_step(due: &mut Due, item: Item, kind: u8) -> Result<Item, Refusal>
+    ensures { item_step_of result due.new ≡ field_list_step (field_list_of item due.old) (bare kind 0) }
 {
     if (kinds::FIELD <= kind) & (kind <= kinds::INVARIANT) {
-        if is_done(item, height) {
-            let item = begun(kind);
-            return ItemStep::To { item, height: 0 };
+        if is_done(due, item) {
+            return Ok(begun(kind));
         }
-        return ItemStep::Fault(Refusal::OutOfOrder); // row 6
+        return Err(Refusal::OutOfOrder); // row 6
     }
-    within_item(due, item, height, kind)
+    within_item(due, item, kind)
 }

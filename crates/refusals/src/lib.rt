@@ -11,7 +11,5 @@ mod pass;
 mod rows;
 mod runs;
 mod state;
-mod verdict;
 
 pub use rows::accept;
-pub use verdict::Verdict;

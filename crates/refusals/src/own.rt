@@ -10,63 +10,53 @@ use crate::bytes::{byte, name_end, value};
 use rules::{Refusal, Sheet};
 use sheet::kinds;
 
-// What rows 3 to 5 say of a record.
-#[derive(Clone, Copy)]
-pub enum Own {
-    Sound,
-    Fault(Refusal),
-}
-
 // What byte 1 is to be less than: how many subs the kind has; 256 for a kind without a sub, 0 where there is no such kind.
+#[tactic(auto, unfolding(rules::specs::Words::look_up))]
 fn sub_limit(kind: u8) -> u16
     ensures { result ≡ sub_limit kind }
 {
     match kind {
         kinds::DECLARATION => 10,
-        kinds::IMPORTED_NAME => 256,
-        kinds::WILDCARD => 256,
         kinds::HEAD => 5,
-        kinds::FIELD => 256,
-        kinds::FIELD_TOMBSTONE => 256,
-        kinds::INVARIANT => 256,
-        kinds::VARIANT => 256,
-        kinds::TOMBSTONE => 256,
         kinds::BACKING => 4,
-        kinds::ANNOTATION => 256,
-        kinds::ARGUMENT => 6,
-        kinds::BIT_NAME => 256,
         kinds::PRIMITIVE => 14,
-        kinds::SUB_BYTE => 256,
-        kinds::SEMANTIC => 6,
-        kinds::NAMED => 256,
-        kinds::QUALIFIED => 256,
-        kinds::GENERIC => 256,
-        kinds::OPTIONAL => 256,
-        kinds::ARRAY => 256,
-        kinds::FIXED_ARRAY => 256,
-        kinds::SET => 256,
-        kinds::MAP => 256,
-        kinds::RESULT => 256,
-        kinds::VEC2 => 256,
-        kinds::VEC3 => 256,
-        kinds::VEC4 => 256,
-        kinds::QUAT => 256,
-        kinds::MAT3 => 256,
-        kinds::MAT4 => 256,
-        kinds::BITS_INLINE => 256,
-        kinds::AND => 256,
-        kinds::OR => 256,
-        kinds::NOT => 256,
-        kinds::CMP => 6,
-        kinds::RANGE => 2,
-        kinds::LEN_CMP => 6,
-        kinds::LEN_RANGE => 2,
-        kinds::OPERAND => 6,
+        kinds::ARGUMENT | kinds::SEMANTIC | kinds::CMP | kinds::LEN_CMP | kinds::OPERAND => 6,
+        kinds::RANGE | kinds::LEN_RANGE => 2,
+        kinds::IMPORTED_NAME
+        | kinds::WILDCARD
+        | kinds::FIELD
+        | kinds::FIELD_TOMBSTONE
+        | kinds::INVARIANT
+        | kinds::VARIANT
+        | kinds::TOMBSTONE
+        | kinds::ANNOTATION
+        | kinds::BIT_NAME
+        | kinds::SUB_BYTE
+        | kinds::NAMED
+        | kinds::QUALIFIED
+        | kinds::GENERIC
+        | kinds::OPTIONAL
+        | kinds::ARRAY
+        | kinds::FIXED_ARRAY
+        | kinds::SET
+        | kinds::MAP
+        | kinds::RESULT
+        | kinds::VEC2
+        | kinds::VEC3
+        | kinds::VEC4
+        | kinds::QUAT
+        | kinds::MAT3
+        | kinds::MAT4
+        | kinds::BITS_INLINE
+        | kinds::AND
+        | kinds::OR
+        | kinds::NOT => 256,
         _ => 0,
     }
 }
 
 // Row 3: whether kind or sub is unknown, or byte 3 not 0.
+#[tactic(auto, using(crate::proofs::OwnFaults::unknown_read))]
 fn is_unknown(sheet: &[u8], i: usize) -> bool
     requires { i < length sheet.now / 32 }
     ensures { result ≡ is_unknown (decode [] (record_bytes sheet.now i)) }
@@ -78,6 +68,7 @@ fn is_unknown(sheet: &[u8], i: usize) -> bool
 }
 
 // Row 4: whether the name part ends beyond the names text.
+#[tactic(auto, using(crate::proofs::OwnFaults::cut_named, crate::proofs::OwnFaults::name_fits))]
 fn is_cut(sheet: &[u8], names: &[u8], i: usize) -> bool
     requires { i < length sheet.now / 32 }
     ensures { result ≡ not (fits_in names.now (record_bytes sheet.now i)) }
@@ -89,6 +80,7 @@ fn is_cut(sheet: &[u8], names: &[u8], i: usize) -> bool
 }
 
 // Row 5: whether the ordinal is over 4294967295.
+#[tactic(auto, using(crate::proofs::OwnFaults::great_read, crate::proofs::OwnFaults::small_read))]
 fn is_too_great(sheet: &[u8], i: usize) -> bool
     requires { i < length sheet.now / 32 }
     ensures { result ≡ is_too_great (decode [] (record_bytes sheet.now i)) }
@@ -100,18 +92,19 @@ fn is_too_great(sheet: &[u8], i: usize) -> bool
 }
 
 // The fault of record `i` by rows 3 to 5, the lowest number first.
-pub fn own_fault(sheet: &[u8], names: &[u8], i: usize) -> Own
+#[tactic(auto, using(crate::proofs::OwnFaults::own_unknown, crate::proofs::OwnFaults::own_cut, crate::proofs::OwnFaults::own_great, crate::proofs::OwnFaults::own_none))]
+pub fn own_fault(sheet: &[u8], names: &[u8], i: usize) -> Result<(), Refusal>
     requires { i < length sheet.now / 32 }
     ensures { own_of result ≡ own_fault (decode names.now (record_bytes sheet.now i)) }
 {
     if is_unknown(sheet, i) {
-        return Own::Fault(Refusal::Unknown); // row 3
+        return Err(Refusal::Unknown); // row 3
     }
     if is_cut(sheet, names, i) {
-        return Own::Fault(Refusal::NameRange); // row 4
+        return Err(Refusal::NameRange); // row 4
     }
     if is_too_great(sheet, i) {
-        return Own::Fault(Refusal::OrdinalRange); // row 5
+        return Err(Refusal::OrdinalRange); // row 5
     }
-    Own::Sound
+    Ok(())
 }

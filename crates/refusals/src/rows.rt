@@ -8,36 +8,34 @@ ghost use Rattle.refusals.specs.Pass.{verdict_of};
 ghost use Rattle.refusals.specs.Turned.{refusal_by};
 
 use crate::chain::endless;
-use crate::pass::{Passed, first_fault};
-use crate::verdict::Verdict;
-use rules::{Refusal, Sheet};
+use crate::pass::first_fault;
+use rules::{Refusal, Refused, Sheet};
 
 // Why the sheet and the names text are turned down, if they are; the table says what is declared. Row 9 has it lead to the ends of chains.
-fn refuse(sheet: &[u8], names: &[u8], table: &mut [u16; 5122]) -> Verdict
+fn refuse(sheet: &[u8], names: &[u8], table: &mut [u16; 5122]) -> Result<(), Refused>
     requires { table.old ≡ name_table sheet.now names.now }
     ensures { (verdict_of result ≡ refusal_by table.old sheet.now names.now) × SameEnds (context_by table.old sheet.now) (context_by table.new sheet.now) }
 {
     if (sheet.len() % Sheet::RECORD != 0) | (Sheet::MAX_LEN < sheet.len()) {
-        return Verdict::Refused {
+        return Err(Refused {
             refusal: Refusal::SheetLength,
             index: 0,
-        }; // row 1
+        }); // row 1
     }
     if Sheet::MAX_NAMES_LEN < names.len() {
-        return Verdict::Refused {
+        return Err(Refused {
             refusal: Refusal::NamesLength,
             index: 0,
-        }; // row 2
+        }); // row 2
     }
-    match first_fault(sheet, names, table) {
-        Passed::Refused { refusal, index } => Verdict::Refused { refusal, index },
-        Passed::Accepted(end) => endless(sheet, table, end), // row 9
-    }
+    let end = first_fault(sheet, names, table)?;
+    endless(sheet, table, end) // row 9
 }
 
 // Whether the sheet and the names text are accepted, and if not, by which row at which record. The table of names is filled in any case, and may lead
 // from a type to the end of its chain at once.
-pub fn accept(sheet: &[u8], names: &[u8], table: &mut [u16; 5122]) -> Verdict
+#[tactic(auto, using(crate::proofs::RefusalFilled::told_by_filled, crate::proofs::RefusalFilled::ends_by_filled))]
+pub fn accept(sheet: &[u8], names: &[u8], table: &mut [u16; 5122]) -> Result<(), Refused>
     ensures { (verdict_of result ≡ refusal sheet.now names.now) × SameEnds (context_by (name_table sheet.now names.now) sheet.now) (context_by table.new sheet.now) }
 {
     names::fill(sheet, names, table);

@@ -1,8 +1,8 @@
-// Where the grammar stands. The parts that are due lie beside it, in a stack that the caller lends.
-use rules::Refusal;
+// Where the grammar stands, beside the parts that are due.
+ghost use Rattle.std.specs.Prelude.{◌≡◌};
 
 // Which body, and where in it.
-#[derive(Clone, Copy)]
+#[derive(Clone, Copy, PartialEq, Eq)]
 pub enum Body {
     Context,
     Message,
@@ -15,7 +15,7 @@ pub enum Body {
 }
 
 // Where in a field list. A newtype's inner type is `Typed` or `BitNames` too.
-#[derive(Clone, Copy)]
+#[derive(Clone, Copy, PartialEq, Eq)]
 pub enum Item {
     // Between the items.
     Between,
@@ -29,36 +29,8 @@ pub enum Item {
     Conditioned,
 }
 
-// The machine's state: the stack's first `height` entries are due, the last of them first. No part of depth 66 is ever due, and each entry is
-// deeper than the number of those below it, so that 66 entries hold all.
 #[derive(Clone, Copy)]
 pub struct State {
     pub body: Body,
     pub item: Item,
-    pub height: usize,
-}
-
-// A step: the new height of the stack, or a fault.
-#[derive(Clone, Copy)]
-pub enum PartStep {
-    To(usize),
-    Fault(Refusal),
-}
-
-// A step in a field list.
-#[derive(Clone, Copy)]
-pub enum ItemStep {
-    To { item: Item, height: usize },
-    Fault(Refusal),
-}
-
-// A step of the machine.
-#[derive(Clone, Copy)]
-pub enum Step {
-    To {
-        body: Body,
-        item: Item,
-        height: usize,
-    },
-    Fault(Refusal),
 }

@@ -9,15 +9,14 @@ use lib.ListN.{length}
 use lib.Dec.{leb}
 use borrow.Author.Tests.{le-leb}
 use Rattle.rules.specs.declared.answer.Counts.{Counts}
-use Rattle.rules.specs.declared.answer.Refusal.{Refusal}
 use Rattle.rules.specs.declared.answer.AnswerValues.{AnswerValues}
-use Rattle.std.specs.Prelude.{Result, Ok, Err}
+use Rattle.std.specs.Prelude.{Result, Ok}
 use Rattle.rules.specs.declared.answer.Refused.{Refused}
 use Rattle.rules.specs.Words.{only_if}
 use Rattle.rules.specs.Record.{record_size}
-use Rattle.rules.specs.Refusals.{refusal}
+use Rattle.rules.specs.Refusals.{Fault, refusal}
 use Rattle.rules.specs.Bodies.{violations_of}
-use Rattle.rules.specs.Answer.{is_accepted, full_list, total_of, errors_of, answer, number_of, values_of}
+use Rattle.rules.specs.Answer.{is_accepted, full_list, total_of, errors_of, answer, values_of}
 use Rattle.rules.specs.Buffer.{written, buffer_after}
 use Rattle.rules.proofs.AcceptedSheet.{accepted-length}
 use Rattle.rules.proofs.Bound.{list-fits}
@@ -27,19 +26,18 @@ use Rattle.names.specs.SameEnds.{SameEnds}
 use Rattle.names.proofs.Renamed.{table-list}
 use Rattle.diagnostic.specs.Push.{State, push_found}
 use Rattle.diagnostic.proofs.Written.{push-written}
-use Rattle.refusals.specs.declared.verdict.Verdict.{Verdict}
-use Rattle.refusals.specs.Pass.{verdict_of}
 use Rattle.validate.specs.Answered.{Answered}
 
 module _ (sheet names old : List ℕ) where
   -- a refusal
-  pub refused-answered :
-      (v : Verdict) (why : Refusal) (index : ℕ) → verdict_of v ≡ refusal sheet names → v ≡ Verdict.Refused why index →
-      Answered sheet names old (values_of (Err (record { refusal = why; index = index }))) old
-  unfolding answer buffer_after
-  refused-answered v why index h e =
-      let told : refusal sheet names ≡ some (record { number = number_of why; index = index }) = sym h ∙ ap verdict_of e in
-      (rw (told, answer) refl, rw (told, buffer_after) refl)
+  module _ (f : Fault) (told : refusal sheet names ≡ some f) where
+    pub refused_told : answer sheet names ≡ record { number = f.number; index = f.index; total = 0; errors = 0 }
+    unfolding answer
+    refused_told = rw (told, answer) refl
+
+    pub refused_kept : buffer_after sheet names old ≡ old
+    unfolding buffer_after
+    refused_kept = rw (told, buffer_after) refl
 
   accepted : refusal sheet names ≡ none → is_accepted sheet names ≡ true
   accepted told = rw (told, is_accepted) refl
@@ -63,21 +61,23 @@ module _ (sheet names old : List ℕ) where
       ∙ push-written (full_list sheet names) old (omega (arith, list-fits sheet names good))
 
   -- an accepted call
-  pub accepted-answered :
-      (v : Verdict) (table list : List ℕ) (counts : Counts) → verdict_of v ≡ refusal sheet names →
-      SameEnds (context_by (name_table sheet names) sheet) (context_by table sheet) → v ≡ Verdict.Accepted →
+  module _
+      (table list : List ℕ) (counts : Counts) (told : refusal sheet names ≡ none)
+      (ends : SameEnds (context_by (name_table sheet names) sheet) (context_by table sheet))
+      (hs :
       ◌≡◌ {A = List ℕ × Counts} (list, counts)
       (push_found (only_if (leb (length sheet) 32768) (violations_of (context_by table sheet) (view_of sheet 0 (length sheet / record_size))))
-      (old, record { total = 0; errors = 0 })) →
-      Answered sheet names old (values_of (Ok counts)) list
-  unfolding answer buffer_after
-  accepted-answered v table list counts h ends e hs =
-      let told : refusal sheet names ≡ none = sym h ∙ ap verdict_of e in
-      let all = listed table (list, counts) told ends hs in
-      (rw (told, answer) (ap (λ s. values_of (Ok s.1)) all), rw (told, buffer_after) (ap (λ s. s.0) all))
+      (old, record { total = 0; errors = 0 }))) where
+    pub accepted_told : answer sheet names ≡ record { number = 0; index = 0; total = counts.total; errors = counts.errors }
+    unfolding answer
+    accepted_told = rw (told, answer) (sym (ap (λ s. values_of (Ok s.1)) (listed table (list, counts) told ends hs)))
+
+    pub accepted_listed : buffer_after sheet names old ≡ list
+    unfolding buffer_after
+    accepted_listed = rw (told, buffer_after) (sym (ap (λ s. s.0) (listed table (list, counts) told ends hs)))
 
 -- the answer as numbers
-pub told-answered :
+pub told_answered :
     (sheet names old list : List ℕ) (a : Result Counts Refused) (values : AnswerValues) → Answered sheet names old (values_of a) list → values ≡ values_of a →
     Answered sheet names old values list
-told-answered sheet names old list a values h e = rw e h
+told_answered sheet names old list a values h e = rw e h

@@ -1,0 +1,27 @@
+-- A newtype whose chain ends is passed, and behind the newtypes no record is one.
+use Rattle.std.proofs.Common.{rules, arith}
+use Rattle.refusals.proofs.ChainWalk.{endless_starts, endless_found, endless_again, past_end}
+use Rattle.refusals.proofs.ChainEnds.{kept_itself, kept_through, kept_nowhere}
+use Rattle.refusals.proofs.chain.endless.Goals as goal
+
+pub loop-i-init : goal.loop-i-init
+loop-i-init c = search (rules, kept_itself, endless_starts)
+
+pub returns-then-is_endless : goal.returns-then-is_endless
+returns-then-is_endless c =
+    let inv = c.loop-i.invariant in
+    let found = c.is_endless.ensures in
+    let here = kept_nowhere _ _ _ c.loop-i.i c.records-n.result _ inv.0 found.0 in
+    (endless_found _ _ _ _ _ _ inv.1 here (omega arith) c.if-is_endless.true, (kept_through _ _ _ _ inv.0 found.1).same)
+
+pub loop-i-preserved : goal.loop-i-preserved
+loop-i-preserved c =
+    let inv = c.loop-i.invariant in
+    let found = c.is_endless.ensures in
+    let here = kept_nowhere _ _ _ c.loop-i.i c.records-n.result _ inv.0 found.0 in
+    (kept_through _ _ _ _ inv.0 found.1, endless_again _ _ _ _ _ _ inv.1 here (omega arith) c.if-is_endless.false)
+
+pub returns : goal.returns
+returns c =
+    let inv = c.loop-i.invariant in
+    (past_end _ _ _ _ c.requires.1 _ _ c.records-n.ensures inv.1 c.loop-i-test.false, inv.0.same)
