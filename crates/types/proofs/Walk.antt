@@ -1,7 +1,9 @@
 -- The types of a type are walked record by record: what is found at a record comes first, and then what is found with the tests after it.
-use Rattle.std.proofs.Common.{◌≡◌, ℕ, ◌+◌, ◌<◌, ◌≤◌, Bool, true, false, ◌&&◌, List, [], ◌∷◌, ◌++◌, eqb, refl, sym, ◌∙◌, append-nil, arith, ne_eqb, eqb-true}
+use Rattle.std.proofs.Common.{◌≡◌, ℕ, ◌+◌, ◌<◌, ◌≤◌, Bool, true, false, ◌&&◌, List, [], ◌∷◌, ◌++◌, eqb, refl, sym, ◌∙◌, append-nil, arith, ne_eqb, eqb-true, Option, Some}
 use native.Mathlib.Decide.{ℕ_discrete}
 use Rattle.rules.specs.declared.span.Span.{Span}
+use Rattle.rules.specs.declared.range.RecordRange.{RecordRange}
+use Rattle.rules.specs.Range.{first_of}
 use Rattle.rules.specs.Words.{only_if}
 use Rattle.rules.specs.Kind
 use Rattle.rules.specs.Record.{Rec, is, record_bytes, kind_in}
@@ -18,7 +20,7 @@ use Rattle.types.proofs.Left.{Leaves, leaves_rest, leaves_none}
 use Rattle.types.proofs.OwnKinds.{both, own-named, own-none}
 use Rattle.types.proofs.Passed.{passed-optional, no_bit, passed-elements, passed-wrapped, wrapped-stack, wrapped-none}
 use Rattle.types.proofs.Stack.{after-leaf}
-use Rattle.types.proofs.Views.{view-cons, view-none}
+use Rattle.types.proofs.Views.{view-cons, view-none, view_first}
 
 module _ (ctx : ValidationContext ℕ Span) where
   -- where nothing is due, or no record is left, nothing is found
@@ -85,6 +87,15 @@ module _ (ctx : ValidationContext ℕ Span) where
     type-named named =
         let bit : t.kind ≡ Kind.BitName → ⊥ = λ q. omega arith in
         at-type ctx (true ∷ []) t rs bit ∙ rw (after-leaf t.kind bit (omega arith), nothing-due ctx rs, own-named ctx t rs named, append-nil)
+
+-- so what the rules of its name add there is what is added in all
+pub adds_named_alone :
+    (ctx : ValidationContext ℕ Span) (sheet : List ℕ) (range : RecordRange) (old new : Violations) (found : Option ℕ) (i k : ℕ) → found ≡ first_of range → found ≡ Some i →
+    k ≡ kind_in (record_bytes sheet i) → k ≡ Kind.Named → Adds old new (named_found ctx (view_at sheet i)) →
+    Adds old new (type_violations ctx (view_of sheet range.start range.end))
+unfolding view_at
+adds_named_alone ctx sheet range old new found i k read first kind named adds =
+    rw (view_first sheet range i (sym read ∙ first), type-named ctx (view_at sheet i) (view_of sheet (i + 1) range.end) (sym kind ∙ named)) adds
 
 module _ (ctx : ValidationContext ℕ Span) (sheet : List ℕ) (e : ℕ) (old : Violations) (all : List (Found Span)) where
   -- what is left to add is what is found from record i on with those tests
