@@ -6,7 +6,7 @@ use native.Mathlib.Decide.{dec_lt}
 use native.Mathlib.Numerals.{add-one}
 use native.Mathlib.Omega.{arith}
 use lib.ListN.{length, get_or, take, drop, set, length-append, length-take, length-drop, get_or-append}
-use lib.Seq.{take-suc-set, take_all, get_or-append-add, get_or_at, get_or-take, get_or-drop}
+use lib.Seq.{take-suc-set, get_or-append-add, get_or_at, get_or-take, get_or-drop}
 use Rattle.rules.specs.Buffer.{written_of}
 use Rattle.recorded.specs.Buffer.{mark, marks, list_bytes, recorded_after}
 
@@ -32,16 +32,11 @@ marks-at (suc n) i h = go (marks-at n i) (dec_lt i n)
         let last : i ≡ n = omega arith in
         rw last (get_or_at (marks n) (mark n) [] 0 n (length-marks n))
 
--- filling a buffer: the places before i have their marks
-module _ (list : List ℕ) (i : ℕ) (before : take i list ≡ marks i) where
-  pub mark-next : (m : ℕ) → m ≡ mark i → i < length list → take (i + 1) (set list i m) ≡ marks (i + 1)
-  unfolding marks
-  mark-next m e h = rw (add-one i, e, take-suc-set list i (mark i) h, before)
-
-  pub mark-all : (list₀ : List ℕ) → length list ≡ length list₀ → i ≤ length list₀ → length list ≤ i → list ≡ marks (length list₀)
-  mark-all list₀ e l h =
-      let all : i ≡ length list₀ = omega arith in
-      sym (take_all i list h) ∙ before ∙ ap marks all
+-- filling a buffer: one place more has its mark
+pub mark_next :
+    (list : List ℕ) (i m : ℕ) → take i list ≡ marks i → m ≡ mark i → i < length list → take (i + 1) (set list i m) ≡ marks (i + 1)
+unfolding marks
+mark_next list i m before e h = rw (add-one i, e, take-suc-set list i (mark i) h, before)
 
 length-listed : (n : ℕ) (violations : List ℕ) → 16 * n ≤ length violations → length (list_bytes n violations) ≡ 12 * n
 unfolding list_bytes
@@ -79,9 +74,12 @@ listed_at (suc n) i violations h l =
         ∙ get_or-drop 16 violations (16 * ((i - 12) / 12) + (i - 12) % 12) 0
         ∙ ap (λ (j : ℕ). get_or violations j 0) place
 
-module _ (violations : List ℕ) (len k : ℕ) (told : k ≡ written_of (length violations / 16) len) where
+module _ (violations : List ℕ) (len : ℕ) where
   abbrev after : List ℕ
   after = recorded_after violations (marks len)
+
+  abbrev k : ℕ
+  k = written_of (length violations / 16) len
 
   whole : 16 * k ≤ length violations
   whole = omega arith
@@ -91,7 +89,7 @@ module _ (violations : List ℕ) (len k : ℕ) (told : k ≡ written_of (length 
 
   split : after ≡ list_bytes k violations ++ drop (12 * k) (marks len)
   unfolding recorded_after
-  split = rw (length-marks len, told)
+  split = rw length-marks refl
 
   -- a buffer keeps its length
   pub length-after : length after ≡ len
@@ -104,11 +102,10 @@ module _ (violations : List ℕ) (len k : ℕ) (told : k ≡ written_of (length 
       rw
       (split, get_or-append (list_bytes k violations) (drop (12 * k) (marks len)) 0 i (rw list within), listed_at k i violations whole within)
 
-  pub kept_byte : (i m : ℕ) → k ≤ i / 12 → i < len → m ≡ mark i → m ≡ get_or after i 0
-  kept_byte i m h l e =
+  pub kept_byte : (i : ℕ) → k ≤ i / 12 → i < len → mark i ≡ get_or after i 0
+  kept_byte i h l =
       let place : 12 * k + (i - 12 * k) ≡ i = omega arith in
       rw (
-        e,
         split,
         behind (list_bytes k violations) (drop (12 * k) (marks len)) (12 * k) i list (omega arith),
         get_or-drop (12 * k) (marks len) (i - 12 * k) 0,

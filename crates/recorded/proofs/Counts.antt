@@ -1,90 +1,62 @@
--- Counting one by one: what passed before i, and what passes from i on.
-use Prim.Native.Nat.{ℕ, ◌+◌, ◌*◌, ◌/◌, ◌≤◌, ◌<◌, min}
-use mathlib.Core.Path.{◌≡◌, refl}
-use mathlib.Core.Bool.{Bool, ◌&&◌}
-use mathlib.Core.List.{List, []}
-use native.Mathlib.Numerals.{add-one}
+-- A count over a list that is made element by element, or that stands in bytes, is the count that a walk over the indices finds.
+use Prim.Native.Nat.{ℕ, zero, suc, ◌+◌, ◌*◌, ◌/◌, ◌≤◌, ◌<◌}
+use mathlib.Core.Path.{◌≡◌, refl, ap}
+use mathlib.Core.Bool.{Bool, true, false, cond, ◌&&◌}
+use mathlib.Core.List.{List, [], ◌∷◌, ◌++◌, map}
 use native.Mathlib.Omega.{arith}
-use lib.ListN.{length, get_or, take, drop, drop_of_length-le}
-use lib.Seq.{drop-cons, length-take-le}
+use lib.ListN.{length, get_or, take, drop, length-append}
+use lib.Seq.{drop-drop}
 use lib.Dec.{eqb}
-use Rattle.rules.specs.declared.span.Span.{Span}
-use Rattle.rules.specs.declared.answer.AnswerValues.{AnswerValues}
-use Rattle.rules.specs.Words.{number_if, select}
-use Rattle.rules.specs.Record.{Rec, is_of, kind_in, sub_in, record_bytes, records, decode}
-use Rattle.rules.proofs.Records.{records-drop, length-records}
-use Rattle.names.proofs.Places.{count_next, count_none}
-use Rattle.recorded.specs.Replay.{is_same, buffer_lengths, same_buffers, records_of, is_single_field}
+use Rattle.std.specs.List.{filter, range_with_len}
+use Rattle.rules.specs.Words.{only_if, select}
+use Rattle.rules.specs.Record.{is_of, kind_in, sub_in, record_bytes, pieces, records, decode}
+use Rattle.recorded.specs.Replay.{buffer_lengths, records_of}
 
--- the records of a kind and a sub
-module _ (sheet : List ℕ) (kind sub n i found : ℕ) (hn : n ≡ length sheet / 32) where
-  abbrev rs : List (Rec (List ℕ) Span)
-  rs = records sheet []
+-- one element more
+pub count_more :
+    {A : Type 0} (p : A → Bool) (xs : List A) (i : ℕ) (d : A) → i < length xs →
+    length (select p (take (i + 1) xs)) ≡ length (select p (take i xs)) + cond (p (get_or xs i d)) 1 0
+unfolding select
+count_more p [] i d h = absurd (omega arith)
+count_more p (x ∷ xs) zero d h = one (p x)
+  where
+    one : (b : Bool) → length (only_if b (x ∷ []) ++ []) ≡ 0 + cond b 1 0
+    one true = refl
+    one false = refl
+count_more p (x ∷ xs) (suc i) d h =
+    let next : suc i + 1 ≡ suc (i + 1) = omega arith in
+    rw next (simp (length-append, count_more p xs i d (omega arith)) (omega arith))
 
-  module _ (before : records_of kind sub sheet ≡ found + length (select (is_of kind sub) (drop i rs))) where
-    pub record-next :
-        (k s one : ℕ) → i < n → k ≡ kind_in (record_bytes sheet i) → s ≡ sub_in (record_bytes sheet i) →
-        one ≡ number_if (eqb k kind && eqb s sub) 1 →
-        records_of kind sub sheet ≡ found + one + length (select (is_of kind sub) (drop (i + 1) rs))
-    unfolding records_of decode
-    record-next k s one h hk hs e =
-        rw (e, hk, hs) (count_next (is_of kind sub) rs i found before _ _ (records-drop sheet [] i (rw (← hn) h)))
+-- none of the buffers is longer than the longest
+pub length_fits : (total i : ℕ) → get_or (buffer_lengths total) i 0 ≤ 36893
+unfolding buffer_lengths
+length_fits total zero = omega arith
+length_fits total (suc zero) = omega arith
+length_fits total (suc (suc zero)) = omega arith
+length_fits total (suc (suc (suc zero))) = omega arith
+length_fits total (suc (suc (suc (suc zero)))) = omega arith
+length_fits total (suc (suc (suc (suc (suc i))))) = omega arith
 
-    pub record-all : n ≤ i → found ≡ records_of kind sub sheet
-    unfolding records_of
-    record-all h =
-        count_none (is_of kind sub) rs i found before (drop_of_length-le rs {i = i} (rw (length-records, ← hn) h))
+-- the records of a kind and a sub, by their indices
+module _ (kind sub : ℕ) (sheet : List ℕ) where
+  abbrev pub test : ℕ → Bool
+  test i = eqb (kind_in (record_bytes sheet i)) kind && eqb (sub_in (record_bytes sheet i)) sub
 
--- one head of a message, and one field
-pub one-and-one : (sheet : List ℕ) (heads fields : ℕ) → heads ≡ records_of 10 0 sheet → fields ≡ records_of 11 0 sheet → (eqb heads 1 && eqb fields 1) ≡ is_single_field sheet
-unfolding is_single_field
-one-and-one sheet heads fields a b = rw (a, b)
+  counted_from :
+      (n i : ℕ) →
+      length (filter test (range_with_len i n)) ≡ length (select (is_of kind sub) (map (decode []) (pieces n (drop (32 * i) sheet))))
+  unfolding select pieces decode
+  counted_from zero i = refl
+  counted_from (suc n) i =
+      let next : 32 * i + 32 ≡ 32 * (i + 1) = omega arith in
+      rw (drop-drop 32 (32 * i) sheet, next) (one (test i) _ _ _ (counted_from n (i + 1)))
+    where
+      one :
+          {A : Type 0} (b : Bool) (x : A) (is : List ℕ) (xs : List A) → length is ≡ length xs →
+          length (cond b (i ∷ is) is) ≡ length (only_if b (x ∷ []) ++ xs)
+      one true x is xs e = ap suc e
+      one false x is xs e = e
 
--- the length of each buffer
-module _ (total i : ℕ) where
-  pub no_length : i ≡ 0 → (0 ≡ get_or (buffer_lengths total) i 0) × (0 ≤ 36893)
-  unfolding buffer_lengths
-  no_length h = (rw h refl, omega arith)
-
-  pub long-length : i < 5 → (i ≡ 0 → ⊥) → (i ≡ 1 → ⊥) → (i ≡ 2 → ⊥) → (i ≡ 3 → ⊥) → (36893 ≡ get_or (buffer_lengths total) i 0) × (36893 ≤ 36893)
-  unfolding buffer_lengths
-  long-length h a b c d = let last : i ≡ 4 = omega arith in (rw last refl, omega arith)
-
-  module _ (all : ℕ) (e : all ≡ min total 3072) where
-    pub short-length : i ≡ 1 → (12 * (all / 2) ≡ get_or (buffer_lengths total) i 0) × (12 * (all / 2) ≤ 36893)
-    unfolding buffer_lengths
-    short-length h = (rw (h, e) refl, omega arith)
-
-    pub cut-length : i ≡ 2 → (12 * (all / 2) + 7 ≡ get_or (buffer_lengths total) i 0) × (12 * (all / 2) + 7 ≤ 36893)
-    unfolding buffer_lengths
-    cut-length h = (rw (h, e) refl, omega arith)
-
-    pub exact-length : i ≡ 3 → (12 * all ≡ get_or (buffer_lengths total) i 0) × (12 * all ≤ 36893)
-    unfolding buffer_lengths
-    exact-length h = (rw (h, e) refl, omega arith)
-
--- the buffers that are the same
-module _ (sheet names violations : List ℕ) (told : AnswerValues) where
-  abbrev lengths : List ℕ
-  lengths = buffer_lengths told.total
-
-  abbrev test : ℕ → Bool
-  test = is_same sheet names told violations
-
-  pub buffer-first : same_buffers sheet names told violations ≡ 0 + length (select test (drop 0 lengths))
-  unfolding same_buffers
-  buffer-first = omega arith
-
-  module _ (i same : ℕ) (before : same_buffers sheet names told violations ≡ same + length (select test (drop i lengths))) where
-    pub buffer-next :
-        (list : List ℕ) (len one : ℕ) (answered : Bool) → i < 5 → len ≡ get_or lengths i 0 → len ≤ length list →
-        answered ≡ is_same sheet names told violations (length (take len list)) → one ≡ number_if answered 1 →
-        same_buffers sheet names told violations ≡ same + one + length (select test (drop (i + 1) lengths))
-    unfolding same_buffers buffer_lengths
-    buffer-next list len one answered h hl room ha e =
-        rw (e, ha, length-take-le len list room, hl, add-one i)
-        (count_next test lengths i same before _ _ (drop-cons lengths i 0 (omega arith)))
-
-    pub buffer-all : 5 ≤ i → same ≡ same_buffers sheet names told violations
-    unfolding same_buffers buffer_lengths
-    buffer-all h = count_none test lengths i same before (drop_of_length-le lengths {i = i} (omega arith))
+  pub counted : length (filter test (range_with_len 0 (length sheet / 32))) ≡ records_of kind sub sheet
+  unfolding records_of records
+  counted = counted_from (length sheet / 32) 0

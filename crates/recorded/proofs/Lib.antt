@@ -1,4 +1,3 @@
-pub mod Answers
 pub mod Buffers
 pub mod Replayed
 pub mod Counts

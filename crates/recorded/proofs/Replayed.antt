@@ -1,42 +1,28 @@
--- A buffer is compared byte by byte, and the answer by its numbers.
-use Prim.Native.Nat.{ℕ, ◌+◌, ◌≤◌}
-use mathlib.Core.Path.{◌≡◌, refl, sym, ◌∙◌}
-use mathlib.Core.Bool.{Bool, true, false, ◌&&◌}
+-- Two buffers of one length are the same just if their bytes agree at each index.
+use Prim.Native.Nat.{ℕ, zero, suc, ◌+◌}
+use mathlib.Core.Path.{◌≡◌, refl, ap, subst}
+use mathlib.Core.Bool.{Bool, ◌&&◌}
 use mathlib.Core.List.{List}
 use native.Mathlib.Omega.{arith}
-use lib.ListN.{length, get_or, drop}
-use Rattle.rules.specs.declared.answer.AnswerValues.{AnswerValues}
+use native.Mathlib.Numerals.{add-one}
+use lib.ListN.{length, get_or, drop, drop_of_length-le}
+use lib.Seq.{drop-cons}
+use lib.Dec.{eqb}
+use Rattle.std.specs.List.{list_all, range_with_len}
 use Rattle.rules.specs.Words.{same_bytes}
-use Rattle.names.proofs.Same.{bytes-differ, bytes-agree, all-agree}
-use Rattle.validate.specs.Answered.{Answered}
-use Rattle.recorded.specs.Answer.{same_values}
-use Rattle.recorded.specs.Buffer.{marks, recorded_after}
-use Rattle.recorded.specs.Replay.{is_same}
-use Rattle.recorded.proofs.Buffers.{length-after}
 
-module _ (violations list : List ℕ) where
-  abbrev pub after : List ℕ
-  after = recorded_after violations (marks (length list))
+same_from :
+    (a b : List ℕ) (n i : ℕ) → length a ≡ i + n → length b ≡ i + n →
+    list_all (λ k. eqb (get_or a k 0) (get_or b k 0)) (range_with_len i n) ≡ same_bytes (drop i a) (drop i b)
+unfolding same_bytes
+same_from a b zero i ha hb = rw (drop_of_length-le a {i = i} (omega arith), drop_of_length-le b {i = i} (omega arith)) refl
+same_from a b (suc n) i ha hb =
+    let same : ℕ → Bool = λ k. eqb (get_or a k 0) (get_or b k 0) in
+    let behind : list_all same (range_with_len (i + 1) n) ≡ same_bytes (drop (suc i) a) (drop (suc i) b)
+    = subst (λ j. list_all same (range_with_len (i + 1) n) ≡ same_bytes (drop j a) (drop j b)) (add-one i) (same_from a b n (i + 1) (omega arith) (omega arith)) in
+    rw (drop-cons a i 0 (omega arith), drop-cons b i 0 (omega arith)) (ap (λ r. same i && r) behind)
 
-  kept : length after ≡ length list
-  kept = length-after violations (length list) _ refl
-
-  module _ (i : ℕ) (same : same_bytes after list ≡ same_bytes (drop i after) (drop i list)) where
-    pub byte-differs : (x : ℕ) → x ≡ get_or after i 0 → (x ≡ get_or list i 0 → ⊥) → false ≡ same_bytes after list
-    byte-differs x e d = bytes-differ after list i kept same (λ f. d (e ∙ f))
-
-    pub byte-agrees :
-        (x : ℕ) → x ≡ get_or after i 0 → x ≡ get_or list i 0 → same_bytes after list ≡ same_bytes (drop (i + 1) after) (drop (i + 1) list)
-    byte-agrees x e f = bytes-agree after list i kept same (sym e ∙ f)
-
-    pub every_byte : length list ≤ i → true ≡ same_bytes after list
-    every_byte h = all-agree after list i kept same (omega (arith, kept))
-
--- the check's answer and list against the recorded ones
-pub same-call :
-    (sheet names violations filled list : List ℕ) (n : ℕ) (told values : AnswerValues) (answers buffers : Bool) →
-    filled ≡ marks n → Answered sheet names filled values list → answers ≡ same_values told values →
-    buffers ≡ same_bytes (recorded_after violations (marks (length list))) list → length list ≡ n →
-    (answers && buffers) ≡ is_same sheet names told violations n
-unfolding is_same
-same-call sheet names violations filled list n told values answers buffers hf h ha hb hl = rw (ha, hb, hl, h.0, h.1, hf)
+pub same_all :
+    (a b : List ℕ) → length a ≡ length b →
+    list_all (λ k. eqb (get_or a k 0) (get_or b k 0)) (range_with_len 0 (length b)) ≡ same_bytes a b
+same_all a b e = same_from a b (length b) 0 (omega arith) (omega arith)

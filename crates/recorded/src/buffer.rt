@@ -4,7 +4,6 @@ ghost use Rattle.rules.specs.Buffer.{written_of};
 ghost use Rattle.rules.specs.Words.{same_bytes};
 ghost use Rattle.recorded.specs.Buffer.{mark, marks, recorded_after};
 
-use crate::numbers::smaller;
 use rules::Violation;
 
 // The bytes of a violation of the file.
@@ -18,13 +17,12 @@ fn mark_at(i: usize) -> u8
 }
 
 // Fills the buffer as it must be before the call.
+#[tactic(auto, using(crate::proofs::Buffers::mark_next), unfolding(crate::specs::Buffer::marks))]
 pub fn fill(list: &mut [u8])
     ensures { list.new ≡ marks (length list.old) }
 {
-    let mut i = 0;
-    while i < list.len() {
+    for i in 0..list.len() {
         list[i] = mark_at(i);
-        i += 1;
     }
 }
 
@@ -32,31 +30,26 @@ pub fn fill(list: &mut [u8])
 fn written(recorded: usize, len: usize) -> usize
     ensures { result ≡ written_of (recorded / 16) len }
 {
-    smaller(recorded / VIOLATION, len / Violation::SIZE)
+    usize::min(recorded / VIOLATION, len / Violation::SIZE)
 }
 
 // The byte at a place of a buffer of `len` bytes after the call.
+#[tactic(auto, using(crate::proofs::Buffers::written_byte, crate::proofs::Buffers::kept_byte))]
 fn byte_after(violations: &[u8], len: usize, i: usize) -> u8
     requires { i < len }
     ensures { result ≡ get_or (recorded_after violations.now (marks len)) i 0 }
 {
     let record = i / Violation::SIZE;
     if record < written(violations.len(), len) {
-        return violations[VIOLATION * record + i % Violation::SIZE];
+        violations[VIOLATION * record + i % Violation::SIZE]
+    } else {
+        mark_at(i)
     }
-    mark_at(i)
 }
 
 // Whether the buffer is as it must be after the call.
 pub fn is_after(violations: &[u8], list: &[u8]) -> bool
     ensures { result ≡ same_bytes (recorded_after violations.now (marks (length list.now))) list.now }
 {
-    let mut i = 0;
-    while i < list.len() {
-        if byte_after(violations, list.len(), i) != list[i] {
-            return false;
-        }
-        i += 1;
-    }
-    true
+    (0..list.len()).all(|i| byte_after(violations, list.len(), i) == list[i])
 }

@@ -4,7 +4,6 @@ ghost use Rattle.recorded.specs.Answer.{same_values};
 ghost use Rattle.recorded.specs.Replay.{is_same, buffer_lengths, same_buffers};
 
 use crate::buffer::{fill, is_after};
-use crate::numbers::{one_if, smaller};
 use rules::{AnswerValues, Violation};
 
 // How many buffers the check is called with.
@@ -16,73 +15,45 @@ pub const LIST: usize = 36893;
 // The most violations of a list.
 const MOST: usize = 3072;
 
-// Whether both answers have the same numbers.
-fn same_values(a: AnswerValues, b: AnswerValues) -> bool
-    ensures { result ≡ same_values a b }
-{
-    (a.number == b.number) & (a.index == b.index) & (a.total == b.total) & (a.errors == b.errors)
+// A recorded call of the check: what it was called with, its answer, and the violations of its list as the file has them.
+#[derive(Clone, Copy)]
+pub struct Case<'a> {
+    pub sheet: &'a [u8],
+    pub names: &'a [u8],
+    pub answer: AnswerValues,
+    pub violations: &'a [u8],
 }
 
 // Whether the check answers what was recorded and leaves this buffer so.
-fn is_same(
-    sheet: &[u8],
-    names: &[u8],
-    told: AnswerValues,
-    violations: &[u8],
-    list: &mut [u8],
-) -> bool
-    ensures { result ≡ is_same sheet.now names.now told violations.now (length list.old) }
+#[tactic(auto, unfolding(crate::specs::Replay::is_same))]
+fn is_same(case: &Case, list: &mut [u8]) -> bool
+    ensures { result ≡ is_same case.now.sheet.now case.now.names.now case.now.answer case.now.violations.now (length list.old) }
 {
     fill(list);
-    let values = validate::vexil_check(sheet, names, list);
-    same_values(told, values) & is_after(violations, list)
+    let answer = validate::vexil_check(case.sheet, case.names, list);
+    case.answer == answer && is_after(case.violations, list)
 }
 
-// The length of buffer `i`, for so many violations.
-fn buffer_len(i: usize, total: u32) -> usize
-    requires { i < 5 }
-    ensures { (result ≡ get_or (buffer_lengths total) i 0) × (result ≤ 36893) }
+// The lengths of the buffers, for so many violations.
+#[tactic(auto, unfolding(crate::specs::Replay::buffer_lengths))]
+fn buffer_lengths(total: u32) -> [usize; BUFFERS]
+    ensures { result ≡ buffer_lengths total }
 {
-    let all = smaller(total as usize, MOST);
-    match i {
-        0 => 0,
-        1 => Violation::SIZE * (all / 2),
-        2 => Violation::SIZE * (all / 2) + 7,
-        3 => Violation::SIZE * all,
-        _ => LIST,
-    }
+    let most = usize::min(total as usize, MOST);
+    let half = Violation::SIZE * (most / 2);
+    [0, half, half + 7, Violation::SIZE * most, LIST]
 }
 
-// How many of the buffers are the same, each the start of a list with room for it.
-fn same_starts(
-    sheet: &[u8],
-    names: &[u8],
-    told: AnswerValues,
-    violations: &[u8],
-    list: &mut [u8],
-) -> usize
-    requires { 36893 ≤ length list.old }
-    ensures { result ≡ same_buffers sheet.now names.now told violations.now }
+// How many of the five buffers are the same, each the start of a list with room for it.
+#[tactic(auto, using(crate::proofs::Counts::length_fits), unfolding(crate::specs::Replay::same_buffers, rules::specs::Words::select))]
+pub fn same_buffers(case: &Case, list: &mut [u8; LIST]) -> usize
+    ensures { result ≡ same_buffers case.now.sheet.now case.now.names.now case.now.answer case.now.violations.now }
 {
     let mut same = 0;
-    let mut i = 0;
-    while i < BUFFERS {
-        let len = buffer_len(i, told.total);
-        same += one_if(is_same(sheet, names, told, violations, &mut list[..len]));
-        i += 1;
+    for len in buffer_lengths(case.answer.total) {
+        if is_same(case, &mut list[..len]) {
+            same += 1;
+        }
     }
     same
-}
-
-// How many of the five buffers are the same.
-pub fn same_buffers(
-    sheet: &[u8],
-    names: &[u8],
-    told: AnswerValues,
-    violations: &[u8],
-    list: &mut [u8; LIST],
-) -> usize
-    ensures { result ≡ same_buffers sheet.now names.now told violations.now }
-{
-    same_starts(sheet, names, told, violations, list)
 }

@@ -2,7 +2,6 @@
 ghost use Rattle.std.specs.Prelude.{◌≡◌};
 ghost use Rattle.recorded.specs.Replay.{records_of, is_single_field};
 
-use crate::numbers::one_if;
 use sheet::kinds::{FIELD, HEAD};
 
 // The sub of a message's head.
@@ -12,19 +11,15 @@ const MESSAGE: u8 = 0;
 fn records_of(sheet: &[u8], kind: u8, sub: u8) -> usize
     ensures { result ≡ records_of kind sub sheet.now }
 {
-    let n = sheet::records(sheet);
-    let mut found = 0;
-    let mut i = 0;
-    while i < n {
-        found += one_if((sheet::kind(sheet, i) == kind) & (sheet::sub(sheet, i) == sub));
-        i += 1;
-    }
-    found
+    (0..sheet::records(sheet))
+        .filter(|i| sheet::kind(sheet, *i) == kind && sheet::sub(sheet, *i) == sub)
+        .count()
 }
 
 // Whether the sheet is a message with one field.
+#[tactic(auto, unfolding(crate::specs::Replay::is_single_field))]
 pub fn is_single_field(sheet: &[u8]) -> bool
     ensures { result ≡ is_single_field sheet.now }
 {
-    (records_of(sheet, HEAD, MESSAGE) == 1) & (records_of(sheet, FIELD, 0) == 1)
+    records_of(sheet, HEAD, MESSAGE) == 1 && records_of(sheet, FIELD, 0) == 1
 }

@@ -30,7 +30,13 @@ fn judged(
     violations: &[u8],
     list: &mut [u8; LIST],
 ) -> io::Result<Tally> {
-    let same = recorded::same_buffers(sheet, names, told, violations, list);
+    let case = recorded::Case {
+        sheet,
+        names,
+        answer: told,
+        violations,
+    };
+    let same = recorded::same_buffers(&case, list);
     let single = recorded::is_single_field(sheet);
     if same == BUFFERS {
         return Ok(t.with(told, same, single));
