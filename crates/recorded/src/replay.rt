@@ -13,7 +13,7 @@ pub const BUFFERS: usize = 5;
 pub const LIST: usize = 36893;
 
 // The most violations of a list.
-const MOST: usize = 3072;
+pub const MOST_VIOLATIONS: usize = 3072;
 
 // A recorded call of the check: what it was called with, its answer, and the violations of its list as the file has them.
 #[derive(Clone, Copy)]
@@ -39,7 +39,7 @@ fn is_same(case: &Case, list: &mut [u8]) -> bool
 fn buffer_lengths(total: u32) -> [usize; BUFFERS]
     ensures { result ≡ buffer_lengths total }
 {
-    let most = usize::min(total as usize, MOST);
+    let most = usize::min(total as usize, MOST_VIOLATIONS);
     let half = Violation::SIZE * (most / 2);
     [0, half, half + 7, Violation::SIZE * most, LIST]
 }

@@ -1,176 +1,124 @@
 // The file of cases, read in order. The top of compare/src/cases_file.rs describes it.
 //
 // No contract can say what a read brings; what is made of the bytes stands in `recorded`.
-use recorded::VIOLATION;
-use rules::AnswerValues;
+use recorded::{Case, MOST_VIOLATIONS, VIOLATION};
+use rules::{AnswerValues, Sheet};
 use std::io::Read;
 
-// What is found where a number is due.
-#[derive(Clone, Copy)]
-pub enum Number {
-    Of(u32),
-    // The file ends before it.
-    End,
-    // The file ends within it, or it is not as it must be.
-    Fault,
-}
+// The buffers' lengths: the longest sheet, names text and violations of a recorded case.
+const SHEET: usize = Sheet::MAX_LEN + Sheet::RECORD;
 
-// What is found where an answer is due.
-#[derive(Clone, Copy)]
-pub enum Told {
-    Answer(AnswerValues),
-    Fault,
-}
+const NAMES: usize = Sheet::MAX_NAMES_LEN + 1;
 
-// A case whose bytes stand in the buffers: the lengths of its three parts, and its answer.
-#[derive(Clone, Copy)]
-pub struct Case {
-    pub sheet: usize,
-    pub names: usize,
-    pub list: usize,
-    pub answer: AnswerValues,
-}
+const VIOLATIONS: usize = VIOLATION * MOST_VIOLATIONS;
 
-// What is found where a case may begin.
-#[derive(Clone, Copy)]
-pub enum Next {
-    Case(Case),
-    End,
-    Fault,
-}
+// The file ends too early, or is not as it must be.
+#[derive(Clone, Copy, Debug)]
+pub struct Fault;
 
-// Reads four bytes as a number. A read that fails where the number is due counts as the end, one that fails within it as a fault.
-fn next_number(file: &mut impl Read) -> Number {
+// Reads four bytes as a number; none where the file ends. A read that fails where the number is due counts as the end, one that fails
+// within it as a fault.
+fn number_or_end(file: &mut impl Read) -> Result<Option<u32>, Fault> {
     let mut four = [0u8; 4];
-    let Ok(got) = file.read(&mut four) else {
-        return Number::End;
-    };
-    if got == 0 {
-        return Number::End;
+    match file.read(&mut four) {
+        Ok(0) | Err(_) => Ok(None),
+        Ok(got) => {
+            read_exact(file, &mut four[got..])?;
+            Ok(Some(recorded::number(&four)))
+        }
     }
-    if file.read_exact(&mut four[got..]).is_err() {
-        return Number::Fault;
-    }
-    Number::Of(recorded::number(&four))
 }
 
-// Fills the first `len` bytes of `buf`; false if there is no room, or the file ends before or a read fails.
-fn next_bytes(file: &mut impl Read, len: usize, buf: &mut [u8]) -> bool {
-    if buf.len() < len {
-        return false;
-    }
-    file.read_exact(&mut buf[..len]).is_ok()
+// Reads four bytes as a number.
+fn next_number(file: &mut impl Read) -> Result<u32, Fault> {
+    number_or_end(file)?.ok_or(Fault)
 }
 
-// Reads a part that stands after its length.
-fn next_part(file: &mut impl Read, buf: &mut [u8]) -> Number {
-    let Number::Of(n) = next_number(file) else {
-        return Number::Fault;
-    };
-    if next_bytes(file, n as usize, buf) {
-        Number::Of(n)
-    } else {
-        Number::Fault
-    }
+// Fills the buffer.
+fn read_exact(file: &mut impl Read, buffer: &mut [u8]) -> Result<(), Fault> {
+    file.read_exact(buffer).map_err(|_| Fault)
+}
+
+// Reads that many bytes into the buffer; a fault where it has no room for them.
+fn next_part<'a>(
+    file: &mut impl Read,
+    len: usize,
+    buffer: &'a mut [u8],
+) -> Result<&'a [u8], Fault> {
+    let part = buffer.get_mut(..len).ok_or(Fault)?;
+    read_exact(file, part)?;
+    Ok(part)
 }
 
 // Reads the four numbers of an answer that the check can give.
-fn next_answer(file: &mut impl Read) -> Told {
-    let Number::Of(number) = next_number(file) else {
-        return Told::Fault;
+fn next_answer(file: &mut impl Read) -> Result<AnswerValues, Fault> {
+    let answer = AnswerValues {
+        number: next_number(file)?,
+        index: next_number(file)?,
+        total: next_number(file)?,
+        errors: next_number(file)?,
     };
-    let Number::Of(index) = next_number(file) else {
-        return Told::Fault;
-    };
-    let Number::Of(total) = next_number(file) else {
-        return Told::Fault;
-    };
-    let Number::Of(errors) = next_number(file) else {
-        return Told::Fault;
-    };
-    if recorded::is_answer(number, index, total, errors) {
-        Told::Answer(AnswerValues {
-            number,
-            index,
-            total,
-            errors,
-        })
+    if recorded::is_answer(answer.number, answer.index, answer.total, answer.errors) {
+        Ok(answer)
     } else {
-        Told::Fault
+        Err(Fault)
     }
 }
 
 // Reads the file's first 16 bytes, and answers how many cases it says that there are.
-pub fn start(file: &mut impl Read) -> Number {
-    let Number::Of(first) = next_number(file) else {
-        return Number::Fault;
-    };
-    let Number::Of(second) = next_number(file) else {
-        return Number::Fault;
-    };
-    if !recorded::is_magic(first, second) {
-        return Number::Fault;
-    }
-    let Number::Of(count) = next_number(file) else {
-        return Number::Fault;
-    };
-    let Number::Of(high) = next_number(file) else {
-        return Number::Fault;
-    };
-    if high == 0 {
-        Number::Of(count)
+pub fn start(file: &mut impl Read) -> Result<u32, Fault> {
+    let first = next_number(file)?;
+    let second = next_number(file)?;
+    let count = next_number(file)?;
+    let high = next_number(file)?;
+    if recorded::is_magic(first, second) && high == 0 {
+        Ok(count)
     } else {
-        Number::Fault
+        Err(Fault)
     }
 }
 
 // Whether nothing is left.
 pub fn is_end(file: &mut impl Read) -> bool {
-    if let Number::End = next_number(file) {
-        true
-    } else {
-        false
-    }
+    matches!(number_or_end(file), Ok(None))
 }
 
-// Reads the next case into the buffers.
-pub fn next_case(
-    file: &mut impl Read,
-    sheet: &mut [u8],
-    names: &mut [u8],
-    list: &mut [u8],
-) -> Next {
-    match next_number(file) {
-        Number::End => Next::End,
-        Number::Fault => Next::Fault,
-        Number::Of(n) => {
-            let len = n as usize;
-            if next_bytes(file, len, sheet) {
-                after_sheet(file, len, names, list)
-            } else {
-                Next::Fault
-            }
+// The buffers that a case's parts are read into.
+#[derive(Drop)]
+pub struct Buffers {
+    sheet: [u8; SHEET],
+    names: [u8; NAMES],
+    violations: [u8; VIOLATIONS],
+}
+
+impl Buffers {
+    // Buffers with room for every recorded case.
+    pub fn new() -> Self {
+        Buffers {
+            sheet: [0; SHEET],
+            names: [0; NAMES],
+            violations: [0; VIOLATIONS],
         }
     }
-}
 
-// Reads what follows a case's sheet.
-fn after_sheet(file: &mut impl Read, sheet: usize, names: &mut [u8], list: &mut [u8]) -> Next {
-    let Number::Of(n) = next_part(file, names) else {
-        return Next::Fault;
-    };
-    let Told::Answer(answer) = next_answer(file) else {
-        return Next::Fault;
-    };
-    let len = VIOLATION * (answer.total as usize);
-    if next_bytes(file, len, list) {
-        Next::Case(Case {
+    // Reads the next case.
+    pub fn next_case<'a>(&'a mut self, file: &mut impl Read) -> Result<Case<'a>, Fault> {
+        let Buffers {
             sheet,
-            names: n as usize,
-            list: len,
+            names,
+            violations,
+        } = self;
+        let len = next_number(file)?;
+        let sheet = next_part(file, len as usize, sheet)?;
+        let len = next_number(file)?;
+        let names = next_part(file, len as usize, names)?;
+        let answer = next_answer(file)?;
+        let violations = next_part(file, VIOLATION * answer.total as usize, violations)?;
+        Ok(Case {
+            sheet,
+            names,
             answer,
+            violations,
         })
-    } else {
-        Next::Fault
     }
 }

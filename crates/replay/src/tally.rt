@@ -1,13 +1,14 @@
 // What the cases replayed so far come to.
 use recorded::BUFFERS;
 use rules::AnswerValues;
-use std::num::wrapping_add_u64;
+use std::fmt;
 
 #[derive(Clone, Copy)]
 pub struct Tally {
     pub cases: u64,
-    // How many have each number: 0 accepted, 1 to 9 refused.
-    pub numbers: [u64; 10],
+    pub accepted: u64,
+    // How many are refused by each number, from 1 on.
+    pub refused: [u64; 9],
     // How many of the accepted ones are messages with one field.
     pub single: u64,
     pub violations: u64,
@@ -26,7 +27,8 @@ impl Tally {
     pub fn new() -> Self {
         Tally {
             cases: 0,
-            numbers: [0; 10],
+            accepted: 0,
+            refused: [0; 9],
             single: 0,
             violations: 0,
             buffers: 0,
@@ -45,16 +47,42 @@ impl Tally {
     // With a case more, of which so many buffers are as recorded; `single` if its sheet is a message with one field.
     pub fn with(mut self, told: AnswerValues, same: usize, single: bool) -> Self {
         let number = told.number as usize;
-        if number >= 10 {
+        if number > self.refused.len() {
             return self.stopped();
         }
-        self.numbers[number] = wrapping_add_u64(self.numbers[number], 1);
-        self.cases = wrapping_add_u64(self.cases, 1);
-        self.single = wrapping_add_u64(self.single, (single & (number == 0)) as u64);
-        self.violations = wrapping_add_u64(self.violations, told.total as u64);
-        self.buffers = wrapping_add_u64(self.buffers, BUFFERS as u64);
-        self.same = wrapping_add_u64(self.same, same as u64);
-        self.differing = wrapping_add_u64(self.differing, (same != BUFFERS) as u64);
+        if number == 0 {
+            self.accepted = self.accepted.wrapping_add(1);
+            self.single = self.single.wrapping_add(u64::from(single));
+        } else {
+            self.refused[number - 1] = self.refused[number - 1].wrapping_add(1);
+        }
+        self.cases = self.cases.wrapping_add(1);
+        self.violations = self.violations.wrapping_add(u64::from(told.total));
+        self.buffers = self.buffers.wrapping_add(BUFFERS as u64);
+        self.same = self.same.wrapping_add(same as u64);
+        self.differing = self.differing.wrapping_add(u64::from(same != BUFFERS));
         self
+    }
+}
+
+// The lines that say what the cases come to.
+impl fmt::Display for Tally {
+    fn fmt<W: fmt::Write>(&self, f: &mut fmt::Formatter<W>) -> fmt::Result {
+        let t = *self;
+        writeln!(f, "cases {}", t.cases)?;
+        writeln!(f, "accepted {}", t.accepted)?;
+        for (i, refused) in t.refused.iter().enumerate() {
+            writeln!(f, "refused {}: {refused}", i + 1)?;
+        }
+        writeln!(f, "messages of one field {}", t.single)?;
+        writeln!(f, "violations {}", t.violations)?;
+        writeln!(f, "buffers compared {}", t.buffers)?;
+        writeln!(f, "buffers as recorded {}", t.same)?;
+        writeln!(f, "cases differing {}", t.differing)?;
+        if t.whole {
+            writeln!(f, "the file is whole")
+        } else {
+            writeln!(f, "the file is broken after these cases")
+        }
     }
 }
