@@ -1,14 +1,15 @@
 -- Text is put part by part, since its bytes are put one after another. A text that has room stands whole at its place, and every other
 -- byte is kept.
-use Prim.Native.Nat.{ℕ, ◌+◌, ◌≤◌, ◌<◌}
+use Prim.Native.Nat.{ℕ, ◌+◌, ◌-◌, ◌≤◌}
 use mathlib.Core.Path.{◌≡◌, refl, sym, ◌∙◌, ap}
-use mathlib.Core.List.{List, [], ◌∷◌, ◌++◌}
+use mathlib.Core.List.{List, [], ◌∷◌, ◌++◌, append_assoc}
 use native.Mathlib.Nat.{add-zero, zero-add}
 use native.Mathlib.Numerals.{add-one}
 use native.Mathlib.Omega.{arith}
-use lib.ListN.{length, get_or, drop, set, length-append, drop_of_length-le}
-use lib.Seq.{drop-cons, sets, sets-eq}
-use Rattle.report.specs.Put.{State, put}
+use lib.ListN.{length, take, drop, set, length-append}
+use lib.Seq.{drop-drop, sets, sets-eq, length-sets}
+use Rattle.report.specs.declared.text.Text.{Text}
+use Rattle.report.specs.Put.{State, put, state_of, Adds}
 
 -- what two texts in a row leave is what the second leaves after the first
 pub put-append : (xs ys : List ℕ) (s : State) → put (xs ++ ys) s ≡ put ys (put xs s)
@@ -20,29 +21,15 @@ put-append (x ∷ xs) ys s = put-append xs ys (set s.0 s.1 x, s.1 + 1)
 pub put_then : (xs ys : List ℕ) (s t u : State) → t ≡ put xs s → u ≡ put ys t → u ≡ put (xs ++ ys) s
 put_then xs ys s t u e f = rw (put-append, ← e) f
 
--- before the first byte all of a text is left
-pub text-start : (text out : List ℕ) (at : ℕ) → put (drop 0 text) (out, at + 0) ≡ put text (out, at)
-text-start text out at = rw add-zero
-
--- the next byte of a text, and those behind it
-next-byte :
-    (text out : List ℕ) (at i : ℕ) → i < length text →
-    put (drop i text) (out, at + i) ≡ put (drop (i + 1) text) (set out (at + i) (get_or text i 0), at + (i + 1))
-unfolding put
-next-byte text out at i h =
-    let next : at + i + 1 ≡ at + (i + 1) = omega arith in
-    ap (λ l. put l (out, at + i)) (drop-cons text i 0 h)
-    ∙ (λ j. put (drop (sym (add-one i) j) text) (set out (at + i) (get_or text i 0), next j))
-
-module _ (text out₀ out : List ℕ) (at i : ℕ) (before : put (drop i text) (out, at + i) ≡ put text (out₀, at)) where
-  -- after one byte more, what is left of the text still leads to what the whole text leaves
-  pub text-turn : i < length text → put (drop (i + 1) text) (set out (at + i) (get_or text i 0), at + (i + 1)) ≡ put text (out₀, at)
-  text-turn h = sym (next-byte text out at i h) ∙ before
-
-  -- after the last byte nothing is left
-  pub text-end : length text ≤ i → (out, at + i) ≡ put text (out₀, at)
-  unfolding put
-  text-end h = ap (λ l. put l (out, at + i)) (sym (drop_of_length-le text {i = i} h)) ∙ before
+-- a text behind a text
+pub adds_then : {old mid new : Text} {xs ys : List ℕ} → Adds old mid xs → Adds mid new ys → Adds old new (xs ++ ys)
+adds_then {old} {mid} {new} {xs} {ys} e f =
+    record {
+      reference = f.reference ∙ e.reference;
+      state = put_then xs ys (state_of old) (state_of mid) (state_of new) e.state f.state;
+      place = omega (arith, e.place, f.place, length-append xs ys);
+      room = f.room ∙ e.room;
+    }
 
 -- the buffer and the place after a text
 put-sets : (text out : List ℕ) (at : ℕ) → put text (out, at) ≡ (sets out at text, at + length text)
@@ -51,6 +38,19 @@ put-sets [] out at = λ j. (out, sym (add-zero at) j)
 put-sets (b ∷ bs) out at =
     let end : at + 1 + length bs ≡ at + length (b ∷ bs) = omega arith in
     put-sets bs (set out at b) (at + 1) ∙ (λ j. (sets (set out at b) (add-one at j) bs, end j))
+
+-- the bytes stand between those before their place and those behind it
+pub put_between :
+    (text part out : List ℕ) (at : ℕ) → part ≡ text → at + length text ≤ length out →
+    ◌≡◌ {A = State} (take at out ++ (part ++ drop (at + length text - at) (drop at out)), at + length text) (put text (out, at))
+    × (length (take at out ++ (part ++ drop (at + length text - at) (drop at out))) ≡ length out)
+put_between text part out at e room =
+    let size : at + length text - at ≡ length text = omega arith in
+    let whole : sets out at text ≡ take at out ++ (text ++ drop (at + length text) out) = sets-eq text out at room ∙ simp append_assoc in
+    rw (e, size, drop-drop (length text) at out) (
+      sym (put-sets text out at ∙ ap (λ bytes. (bytes, at + length text)) whole),
+      ap length (sym whole) ∙ length-sets out at text,
+    )
 
 module _ (text out out₁ : List ℕ) (r : ℕ) (e : ◌≡◌ {A = State} (out₁, r) (put text (out, 0))) where
   both : ◌≡◌ {A = State} (out₁, r) (sets out 0 text, 0 + length text)

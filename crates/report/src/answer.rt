@@ -1,9 +1,10 @@
 // All the lines of an answer.
-ghost use Rattle.std.specs.Prelude.{◌≡◌, List, ◌++◌, ℕ, ◌*◌, ◌≤◌, min, length, drop};
-ghost use Rattle.report.specs.Put.{put};
+ghost use Rattle.std.specs.Prelude.{◌≡◌, ◌++◌, ◌+◌, ◌*◌, ◌≤◌, length, drop};
+ghost use Rattle.report.specs.Put.{Adds};
 ghost use Rattle.report.specs.Lines.{lines_of, told_of};
 
 use crate::lines::{put_pair, put_violations};
+use crate::text::Text;
 use rules::{AnswerValues, Violation};
 
 // The most violations that are told: as many as 36864 bytes hold.
@@ -12,35 +13,32 @@ const MOST: usize = 3072;
 // The bytes of the longest text: 3072 violations and the counts, each a line of at most 35 bytes.
 pub const SIZE: usize = 107555;
 
-// The smaller of two numbers.
-fn smaller(a: usize, b: usize) -> usize
-    ensures { result ≡ min a b }
-{
-    if a <= b { a } else { b }
-}
-
 // How many violations are told of so many, in a list of that length.
 fn told(total: u32, len: usize) -> usize
     ensures { (result ≡ told_of total len) × (result ≤ 3072) × (12 * result ≤ len) }
 {
-    smaller(MOST, smaller(total as usize, len / Violation::SIZE))
+    usize::min(MOST, usize::min(total as usize, len / Violation::SIZE))
 }
 
-// Puts the lines at the start of a buffer with room for them.
-fn put_lines(values: AnswerValues, list: &[u8], out: &mut [u8]) -> usize
-    requires { 107555 ≤ length out.old }
-    ensures { (◌≡◌ {A = List ℕ × ℕ} (out.new, result) (put (lines_of values list.now) (out.old, 0))) × (result ≤ 107555) }
+// Puts the lines behind a text.
+fn put_lines(text: &mut Text, values: AnswerValues, list: &[u8])
+    requires { text.old.len + 107555 ≤ length text.old.buffer.now }
+    ensures adds { Adds text.old text.new (lines_of values list.now) }
+    ensures short { text.new.len ≤ text.old.len + 107555 }
 {
-    if values.number != 0 {
-        return put_pair(out, 0, b"refused ", values.number, b" at ", values.index);
+    if values.number == 0 {
+        put_violations(text, list, told(values.total, list.len()));
+        put_pair(text, b"total ", values.total, b" errors ", values.errors);
+    } else {
+        put_pair(text, b"refused ", values.number, b" at ", values.index);
     }
-    let at = put_violations(out, list, told(values.total, list.len()));
-    put_pair(out, at, b"total ", values.total, b" errors ", values.errors)
 }
 
 // Writes the lines to the start of `out`, whose other bytes are kept, and returns how many bytes they are.
 pub fn report(values: AnswerValues, list: &[u8], out: &mut [u8; SIZE]) -> usize
     ensures { (result ≡ length (lines_of values list.now)) × (out.new ≡ lines_of values list.now ++ drop result out.old) × (result ≤ length out.new) }
 {
-    put_lines(values, list, out)
+    let mut text = Text::new(out);
+    put_lines(&mut text, values, list);
+    text.len
 }
