@@ -1,6 +1,4 @@
 // The files of the current folder. No contract can say what a read brings; what is made of the bytes stands in `text`.
-ghost use Rattle.std.specs.Counts.{IsPrefixLen};
-
 use crate::text::lines;
 use report::SIZE;
 use rules::Sheet;
@@ -20,35 +18,28 @@ fn explain(rt: &impl Eprint, path: &str, error: io::Error) {
     }
 }
 
-// Reads until `buf` is full, the file ends or a read fails, and returns how many bytes are at the start of `buf`.
-fn read_full(file: &mut impl Read, buf: &mut [u8]) -> usize
-    ensures { IsPrefixLen result buf.new }
-{
+// Reads until `buf` is full, the file ends or a read fails, and returns the bytes that were read.
+fn read_full<'a>(file: &mut impl Read, buf: &'a mut [u8]) -> &'a [u8] {
     let mut done = 0;
+    // No `read_exact`, which does not say how much it read where the file ends.
     while done < buf.len() {
-        let Ok(n) = file.read(&mut buf[done..]) else {
-            break;
-        };
-        if n == 0 {
-            break;
+        match file.read(&mut buf[done..]) {
+            Ok(0) | Err(_) => break,
+            Ok(n) => done += n,
         }
-        done += n;
     }
-    done
+    &buf[..done]
 }
 
-// Puts the first bytes of a file, as many as `buf` holds, at the start of it, and returns how many there are. A missing file is empty.
-fn read(rt: &(impl Files + Eprint), path: &str, buf: &mut [u8]) -> usize
-    ensures { IsPrefixLen result buf.new }
-{
-    let mut file = match fs::open(rt, path) {
-        Ok(file) => file,
+// Returns the first bytes of a file, as many as `buf` holds. A missing file is empty.
+fn read<'a>(rt: &(impl Files + Eprint), path: &str, buf: &'a mut [u8]) -> &'a [u8] {
+    match fs::open(rt, path) {
+        Ok(mut file) => read_full(&mut file, buf),
         Err(error) => {
             explain(rt, path, error);
-            return 0;
+            &[]
         }
-    };
-    read_full(&mut file, buf)
+    }
 }
 
 // Prints the lines of `body.sheet` and `body.names`.
@@ -56,8 +47,8 @@ pub fn run(rt: &(impl Files + Print + Eprint)) -> io::Result<()> {
     let mut sheet = [0u8; SHEET];
     let mut names = [0u8; NAMES];
     let mut out = [0u8; SIZE];
-    let sheet_len = read(rt, "body.sheet", &mut sheet);
-    let names_len = read(rt, "body.names", &mut names);
-    let n = lines(&sheet[..sheet_len], &names[..names_len], &mut out);
+    let sheet = read(rt, "body.sheet", &mut sheet);
+    let names = read(rt, "body.names", &mut names);
+    let n = lines(sheet, names, &mut out);
     rt.write_all(&out[..n])
 }
