@@ -1,20 +1,15 @@
 -- The bytes of a buffer one by one: before a call each is the mark of its place, after it those of the written records are the file's.
 use Prim.Native.Nat.{ℕ, zero, suc, ◌+◌, ◌-◌, ◌*◌, ◌/◌, ◌%◌, ◌≤◌, ◌<◌}
-use mathlib.Core.Path.{◌≡◌, refl, sym, ap, ◌∙◌}
+use mathlib.Core.Path.{◌≡◌, refl, ap, ◌∙◌}
 use mathlib.Core.List.{List, [], ◌∷◌, ◌++◌}
 use native.Mathlib.Decide.{dec_lt}
 use native.Mathlib.Numerals.{add-one}
 use native.Mathlib.Omega.{arith}
 use lib.ListN.{length, get_or, take, drop, set, length-append, length-take, length-drop, get_or-append}
-use lib.Seq.{take-suc-set, get_or-append-add, get_or_at, get_or-take, get_or-drop}
+use lib.Seq.{take-suc-set, get_or_at, get_or-take, get_or-drop}
+use Rattle.std.proofs.lemmas.List.{get_or-append_right}
 use Rattle.rules.specs.Buffer.{written_of}
 use Rattle.recorded.specs.Buffer.{mark, marks, list_bytes, recorded_after}
-
--- an element of the second of two lists
-behind : (xs ys : List ℕ) (n i : ℕ) → length xs ≡ n → n ≤ i → get_or (xs ++ ys) i 0 ≡ get_or ys (i - n) 0
-behind xs ys n i e h =
-    let later : length xs + (i - n) ≡ i = omega (arith, e) in
-    ap (λ (j : ℕ). get_or (xs ++ ys) j 0) (sym later) ∙ get_or-append-add xs ys (i - n) 0
 
 pub length-marks : (n : ℕ) → length (marks n) ≡ n
 unfolding marks
@@ -69,7 +64,7 @@ listed_at (suc n) i violations h l =
         rw place (get_or-append (take 12 violations) rest 0 i (rw front s) ∙ get_or-take 12 violations i 0 s)
     go later (no s) =
         let place : 16 + (16 * ((i - 12) / 12) + (i - 12) % 12) ≡ 16 * (i / 12) + i % 12 = omega arith in
-        behind (take 12 violations) rest 12 i front (omega arith)
+        get_or-append_right (take 12 violations) rest 12 i 0 front (omega arith)
         ∙ later (omega arith)
         ∙ get_or-drop 16 violations (16 * ((i - 12) / 12) + (i - 12) % 12) 0
         ∙ ap (λ (j : ℕ). get_or violations j 0) place
@@ -107,7 +102,7 @@ module _ (violations : List ℕ) (len : ℕ) where
       let place : 12 * k + (i - 12 * k) ≡ i = omega arith in
       rw (
         split,
-        behind (list_bytes k violations) (drop (12 * k) (marks len)) (12 * k) i list (omega arith),
+        get_or-append_right (list_bytes k violations) (drop (12 * k) (marks len)) (12 * k) i 0 list (omega arith),
         get_or-drop (12 * k) (marks len) (i - 12 * k) 0,
         place,
         marks-at len i l,
