@@ -1,6 +1,8 @@
+pub mod FoundSteps
+pub mod Remaining
+pub mod Asked
 pub mod Views
 pub mod WordCodes
-pub mod FoundSteps
 pub mod Slots
 pub mod Entered
 pub mod Repeats

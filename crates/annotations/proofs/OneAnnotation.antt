@@ -1,131 +1,101 @@
 -- Rules 14 to 21: an annotation has one word, so it breaks the rules of that word alone.
 use Prim.Native.Nat.{ℕ, ◌≤◌}
-use mathlib.Core.Path.{◌≡◌, refl, ◌∙◌, sym}
-use mathlib.Core.Bool.{Bool, false, not, ◌&&◌}
+use mathlib.Core.Path.{◌≡◌, refl, sym, ◌∙◌}
+use mathlib.Core.Bool.{Bool, false, not}
 use mathlib.Core.List.{List, [], ◌++◌, append-nil}
 use native.Mathlib.Omega.{arith}
 use lib.Dec.{eqb}
+use Rattle.std.specs.Prelude.{Some, None}
 use Rattle.rules.specs.declared.span.Span.{Span}
-use Rattle.rules.specs.declared.violation.Violation.{Violation}
-use Rattle.rules.specs.Words.{only_if}
-use Rattle.rules.specs.Context.{varint, zigzag, delta, limit, deprecated}
-use Rattle.rules.specs.Record.{span_in, record_bytes}
-use Rattle.rules.specs.Rule.{Found, found_if, violation, rule_row}
-use Rattle.rules.specs.Types.{is_varint_valid_type, is_zigzag_valid_type, is_delta_valid_type, is_limit_valid_type}
+use Rattle.rules.specs.Record.{Rec}
+use Rattle.rules.specs.Rule.{Found, found_if, violation}
 use Rattle.rules.specs.Annotations.{deprecated_violations, annotation_violations}
 use Rattle.names.specs.View.{view_at, view_of, context_by, entry_of, code_part}
-use Rattle.diagnostic.specs.Push.{State, push_if, push_found}
-use Rattle.diagnostic.proofs.FoundPushes.{found_none, found-then}
+use Rattle.diagnostic.specs.declared.violations.Violations.{Violations}
+use Rattle.diagnostic.specs.Push.{push_if}
+use Rattle.diagnostic.specs.Violations.{state_of, Adds}
+use Rattle.diagnostic.proofs.Added.{adds_none, adds_then, adds_if}
+use Rattle.annotations.specs.declared.word.Word.{Word}
+use Rattle.annotations.specs.declared.word.Word.TheVariants.{Varint, Zigzag, Delta, Limit, Deprecated, Doc, Reason, Blank}
 use Rattle.annotations.specs.AnnotationAt.{annotation_at}
 use Rattle.annotations.specs.LimitViolations.{limit_violations}
-use Rattle.annotations.proofs.WordCodes.{code-word, word-other}
-use Rattle.annotations.proofs.FoundSteps.{pushed-if, found_as}
+use Rattle.annotations.specs.Target.{target_violations}
+use Rattle.annotations.specs.WordOf.{word_of, code_of}
+use Rattle.annotations.proofs.WordCodes.{word-other, coded, uncoded}
 
--- the rules by the word, by what the type takes, and by what is found at the arguments
-module _ (v z d l : Bool) (place : Span) (limits reasons : List (Found Span)) where
-  by_word : ℕ → List (Found Span)
-  by_word word =
-      found_if 14 (eqb word varint && not v) place
-      ++ found_if 15 (eqb word zigzag && not z) place
-      ++ found_if 16 (eqb word delta && not d) place
-      ++ found_if 17 (eqb word limit && not l) place
-      ++ only_if (eqb word limit) limits
-      ++ only_if (eqb word deprecated) reasons
-
-  at-varint : by_word 1 ≡ found_if 14 (not v) place
-  unfolding by_word
-  at-varint = simp append-nil
-
-  at-zigzag : by_word 2 ≡ found_if 15 (not z) place
-  unfolding by_word
-  at-zigzag = simp append-nil
-
-  at-delta : by_word 3 ≡ found_if 16 (not d) place
-  unfolding by_word
-  at-delta = simp append-nil
-
-  at-limit : by_word 4 ≡ found_if 17 (not l) place ++ limits
-  unfolding by_word
-  at-limit = simp append-nil
-
-  at-deprecated : by_word 5 ≡ reasons
-  unfolding by_word
-  at-deprecated = refl
-
-  at_other :
-      (w : ℕ) → eqb w 1 ≡ false → eqb w 2 ≡ false → eqb w 3 ≡ false → eqb w 4 ≡ false → eqb w 5 ≡ false → by_word w ≡ []
-  unfolding by_word
-  at_other w h₁ h₂ h₃ h₄ h₅ = rw (h₁, h₂, h₃, h₄, h₅)
-
-module _ (table sheet : List ℕ) (i e ta te c : ℕ) (hc : c ≡ entry_of code_part table i) where
+module _ (table sheet : List ℕ) (i e a z : ℕ) where
+  -- what is found at the annotation
   abbrev all : List (Found Span)
-  all = annotation_violations (context_by table sheet) (view_of sheet ta te) (annotation_at sheet i e)
+  all = annotation_violations (context_by table sheet) (view_of sheet a z) (annotation_at sheet i e)
 
-  abbrev limits : List (Found Span)
-  limits = limit_violations (context_by table sheet) (view_of sheet ta te) (annotation_at sheet i e)
+  -- what is found at its arguments, by its word
+  abbrev pub at_arguments : Word → List (Found Span)
+  at_arguments Varint = []
+  at_arguments Zigzag = []
+  at_arguments Delta = []
+  at_arguments Limit = limit_violations (context_by table sheet) (view_of sheet a z) (annotation_at sheet i e)
+  at_arguments Deprecated = deprecated_violations (context_by table sheet) (annotation_at sheet i e)
+  at_arguments Doc = []
+  at_arguments Reason = []
+  at_arguments Blank = []
 
-  abbrev reasons : List (Found Span)
-  reasons = deprecated_violations (context_by table sheet) (annotation_at sheet i e)
+  pub by-word :
+      (w : Word) → word_of (entry_of code_part table i) ≡ Some w →
+      all ≡ target_violations w (view_of sheet a z) (view_at sheet i).place ++ at_arguments w
+  unfolding annotation_violations annotation_at context_by entry_of view_at
+  by-word Varint h = rw (coded _ Varint h) (simp append-nil)
+  by-word Zigzag h = rw (coded _ Zigzag h) (simp append-nil)
+  by-word Delta h = rw (coded _ Delta h) (simp append-nil)
+  by-word Limit h = rw (coded _ Limit h) (simp append-nil)
+  by-word Deprecated h = rw (coded _ Deprecated h)
+  by-word Doc h = rw (coded _ Doc h)
+  by-word Reason h = rw (coded _ Reason h)
+  by-word Blank h = rw (coded _ Blank h)
 
-  abbrev of : ℕ → List (Found Span)
-  of =
-      by_word (is_varint_valid_type (view_of sheet ta te)) (is_zigzag_valid_type (view_of sheet ta te)) (is_delta_valid_type (view_of sheet ta te))
-      (is_limit_valid_type (view_of sheet ta te)) (span_in (record_bytes sheet i)) limits reasons
+  -- a name that is no word
+  not-word : (w : Word) → None ≡ word_of (entry_of code_part table i) → 1 ≤ code_of w → code_of w ≤ 7 → eqb ((context_by table sheet).word i) (code_of w) ≡ false
+  not-word w h f t = word-other table sheet i (code_of w) f t _ refl (uncoded _ w (sym h))
 
-  by-word : (w : ℕ) → (context_by table sheet).word i ≡ w → all ≡ of w
-  unfolding annotation_violations by_word annotation_at view_at
-  by-word w h = rw h
+  pub no_word : (vs : Violations) → None ≡ word_of (entry_of code_part table i) → Adds vs vs all
+  unfolding annotation_violations annotation_at view_at
+  no_word vs h =
+      rw (not-word Varint h (omega arith) (omega arith), not-word Zigzag h (omega arith) (omega arith), not-word Delta h (omega arith) (omega arith))
+      (rw (not-word Limit h (omega arith) (omega arith), not-word Deprecated h (omega arith) (omega arith)) (adds_none vs))
 
-  by_code : (w : ℕ) → 1 ≤ w → w ≤ 7 → c ≡ w → all ≡ of w
-  by_code w from to h = by-word w (code-word table sheet i w from to c hc h)
+  -- what is found for a word, at the annotation and then at its arguments
+  pub word_found :
+      (w : Word) (old mid new : Violations) → Some w ≡ word_of (entry_of code_part table i) →
+      Adds old mid (target_violations w (view_of sheet a z) (view_at sheet i).place) → Adds mid new (at_arguments w) → Adds old new all
+  word_found w old mid new h target arguments = rw (by-word w (sym h)) (adds_then old mid new _ _ target arguments)
 
-  module _ (valid : Bool) (place : Span) (v : Violation) (s t : State) (hp : place ≡ span_in (record_bytes sheet i)) (pushed : t ≡ push_if (not valid) v s) where
-    -- a word whose one rule asks what the type takes
-    target_found :
-        (rule : ℕ) (takes : Bool) → all ≡ found_if rule (not takes) (span_in (record_bytes sheet i)) → valid ≡ takes →
-        v ≡ violation (record { rule = rule; place = place }) → t ≡ push_found all s
-    target_found rule takes found valid-is hv =
-        found_as all (found_if rule (not valid) place) s t (found ∙ rw (valid-is, hp)) (pushed-if rule (not valid) place v s t hv pushed)
+  pub no_arguments : (w : Word) (vs : Violations) → (w ≡ Limit → ⊥) → (w ≡ Deprecated → ⊥) → Adds vs vs (at_arguments w)
+  no_arguments Varint vs h₁ h₂ = adds_none vs
+  no_arguments Zigzag vs h₁ h₂ = adds_none vs
+  no_arguments Delta vs h₁ h₂ = adds_none vs
+  no_arguments Limit vs h₁ h₂ = absurd (h₁ refl)
+  no_arguments Deprecated vs h₁ h₂ = absurd (h₂ refl)
+  no_arguments Doc vs h₁ h₂ = adds_none vs
+  no_arguments Reason vs h₁ h₂ = adds_none vs
+  no_arguments Blank vs h₁ h₂ = adds_none vs
 
-    pub varint-found :
-        c ≡ 1 → valid ≡ is_varint_valid_type (view_of sheet ta te) → v ≡ record { class = 52; severity = 0; span = place } →
-        t ≡ push_found all s
-    unfolding rule_row
-    varint-found h = target_found 14 _ (by_code 1 (omega arith) (omega arith) h ∙ at-varint _ _ _ _ _ _ _)
+-- the error of a word, under the test of its type
+pub target-told :
+    (rule class : ℕ) (takes valid : Bool) (told : Bool × ℕ) (place : Span) (old new : Violations) →
+    violation (record { rule = rule; place = place }) ≡ record { class = class; severity = 0; span = place } → told ≡ (valid, class) → valid ≡ takes →
+    new.list.ghost_name ≡ old.list.ghost_name →
+    state_of new ≡ push_if (not told.0) (record { class = told.1; severity = 0; span = place }) (state_of old) →
+    Adds old new (found_if rule (not takes) place)
+target-told rule class takes valid told place old new hv ht takes-is same pushed =
+    rw (← takes-is) (adds_if rule (not valid) place old new same (pushed ∙ rw (ht, hv)))
 
-    pub zigzag-found :
-        c ≡ 2 → valid ≡ is_zigzag_valid_type (view_of sheet ta te) → v ≡ record { class = 53; severity = 0; span = place } →
-        t ≡ push_found all s
-    unfolding rule_row
-    zigzag-found h = target_found 15 _ (by_code 2 (omega arith) (omega arith) h ∙ at-zigzag _ _ _ _ _ _ _)
-
-    pub delta-found :
-        c ≡ 3 → valid ≡ is_delta_valid_type (view_of sheet ta te) → v ≡ record { class = 55; severity = 0; span = place } →
-        t ≡ push_found all s
-    unfolding rule_row
-    delta-found h = target_found 16 _ (by_code 3 (omega arith) (omega arith) h ∙ at-delta _ _ _ _ _ _ _)
-
-    pub limit-found :
-        (u : State) → c ≡ 4 → valid ≡ is_limit_valid_type (view_of sheet ta te) → v ≡ record { class = 49; severity = 0; span = place } →
-        u ≡ push_found limits t → u ≡ push_found all s
-    unfolding rule_row
-    limit-found u h valid-is hv more =
-        found_as all (found_if 17 (not valid) place ++ limits) s u
-        (by_code 4 (omega arith) (omega arith) h ∙ at-limit _ _ _ _ _ _ _ ∙ rw (valid-is, hp))
-        (found-then _ _ s t u (pushed-if 17 (not valid) place v s t hv pushed) more)
-
-  pub deprecated-found : (s t : State) → c ≡ 5 → t ≡ push_found reasons s → t ≡ push_found all s
-  deprecated-found s t h pushed =
-      found_as all reasons s t (by_code 5 (omega arith) (omega arith) h ∙ at-deprecated _ _ _ _ _ _ _) pushed
-
-  pub none_found :
-      (s : State) → (c ≡ 1 → ⊥) → (c ≡ 2 → ⊥) → (c ≡ 3 → ⊥) → (c ≡ 4 → ⊥) → (c ≡ 5 → ⊥) → s ≡ push_found all s
-  none_found s h₁ h₂ h₃ h₄ h₅ =
-      found_as all [] s s
-      (by-word _ refl
-      ∙ at_other _ _ _ _ _ _ _ _ (no 1 (omega arith) (omega arith) h₁) (no 2 (omega arith) (omega arith) h₂) (no 3 (omega arith) (omega arith) h₃)
-      (no 4 (omega arith) (omega arith) h₄) (no 5 (omega arith) (omega arith) h₅))
-      (sym (found_none s))
-    where
-      no : (w : ℕ) → 1 ≤ w → w ≤ 7 → (c ≡ w → ⊥) → eqb ((context_by table sheet).word i) w ≡ false
-      no w from to h = word-other table sheet i w from to c hc h
+pub no_target :
+    (w : Word) (ty : List (Rec ℕ Span)) (place : Span) (vs : Violations) → (w ≡ Varint → ⊥) → (w ≡ Zigzag → ⊥) → (w ≡ Delta → ⊥) → (w ≡ Limit → ⊥) →
+    Adds vs vs (target_violations w ty place)
+no_target Varint ty place vs h₁ h₂ h₃ h₄ = absurd (h₁ refl)
+no_target Zigzag ty place vs h₁ h₂ h₃ h₄ = absurd (h₂ refl)
+no_target Delta ty place vs h₁ h₂ h₃ h₄ = absurd (h₃ refl)
+no_target Limit ty place vs h₁ h₂ h₃ h₄ = absurd (h₄ refl)
+no_target Deprecated ty place vs h₁ h₂ h₃ h₄ = adds_none vs
+no_target Doc ty place vs h₁ h₂ h₃ h₄ = adds_none vs
+no_target Reason ty place vs h₁ h₂ h₃ h₄ = adds_none vs
+no_target Blank ty place vs h₁ h₂ h₃ h₄ = adds_none vs

@@ -1,6 +1,6 @@
--- Rules 20 and 21: the arguments of an annotation are asked one after the other for the key `reason`.
-use Prim.Native.Nat.{ℕ, suc, ◌+◌, ◌≤◌, ◌<◌}
-use mathlib.Core.Path.{◌≡◌, ◌∙◌, sym}
+-- Rules 20 and 21: the key `reason` stands among an annotation's arguments just if its code does, and one of the two rules tells.
+use Prim.Native.Nat.{ℕ}
+use mathlib.Core.Path.{◌≡◌, refl, ◌∙◌, ap}
 use mathlib.Core.Bool.{Bool, true, false}
 use mathlib.Core.List.{List}
 use native.Mathlib.Omega.{arith}
@@ -9,56 +9,44 @@ use Rattle.rules.specs.declared.span.Span.{Span}
 use Rattle.rules.specs.declared.violation.Violation.{Violation}
 use Rattle.rules.specs.Words.{any_of}
 use Rattle.rules.specs.Context.{reason}
-use Rattle.rules.specs.Record.{kind_in, span_in, record_bytes}
+use Rattle.rules.specs.Record.{Rec, span_in, record_bytes}
 use Rattle.rules.specs.Rule.{rule_row}
 use Rattle.rules.specs.Annotations.{has_reason, deprecated_violations}
 use Rattle.names.specs.View.{view_at, view_of, context_by, entry_of, code_part}
-use Rattle.diagnostic.specs.Push.{State, push_one, push_all, push_found}
-use Rattle.annotations.specs.AnnotationAt.{arguments_from, annotation_at}
-use Rattle.annotations.proofs.Views.{is-annotation, is-other, arguments-start, arguments-next, arguments-stop, arguments-none}
-use Rattle.annotations.proofs.WordCodes.{word-here, word-other}
+use Rattle.diagnostic.specs.declared.violations.Violations.{Violations}
+use Rattle.diagnostic.specs.Push.{push_one}
+use Rattle.diagnostic.specs.Violations.{state_of, Adds}
+use Rattle.diagnostic.proofs.Added.{adds_one}
+use Rattle.annotations.specs.AnnotationAt.{annotation_at}
+use Rattle.annotations.proofs.Asked.{SomeFrom}
+use Rattle.annotations.proofs.Views.{any_in}
+use Rattle.annotations.proofs.WordCodes.{word-is}
 
--- the key stands among the arguments from record j on
-unfoldable pub reason_from : List ℕ → List ℕ → ℕ → ℕ → Bool
-reason_from table sheet j e = any_of (λ argument. eqb ((context_by table sheet).word argument.name) reason) (arguments_from sheet j e)
+module _ (table sheet : List ℕ) where
+  pub is_reason : Rec ℕ Span → Bool
+  is_reason argument = eqb ((context_by table sheet).word argument.name) reason
 
-module _ (table sheet : List ℕ) (i e : ℕ) where
-  abbrev has_reason_at : Bool
-  has_reason_at = has_reason (context_by table sheet) (annotation_at sheet i e)
+  pub code-is : (j : ℕ) (b : Bool) → eqb (entry_of code_part table j) 7 ≡ b → is_reason (view_at sheet j) ≡ b
+  unfolding is_reason view_at
+  code-is j b h = word-is table sheet j 7 (omega arith) (omega arith) _ refl ∙ h
 
-  pub reason-start : (j : ℕ) → ((s : List ℕ) → view_of s j e ≡ view_of s (suc i) e) → has_reason_at ≡ reason_from table sheet j e
-  unfolding reason_from
-  reason-start j same = rw (arguments-start sheet i e j same)
+  module _ (i e : ℕ) where
+    -- each of the arguments was asked
+    pub reason-asked :
+        (a z : ℕ) (r : Bool) → view_of sheet a z ≡ (annotation_at sheet i e).rest → SomeFrom (λ j. is_reason (view_at sheet j)) a z r →
+        r ≡ has_reason (context_by table sheet) (annotation_at sheet i e)
+    unfolding is_reason
+    reason-asked a z r same h = any_in sheet is_reason a z r h ∙ ap (any_of is_reason) same
 
-  module _ (j k : ℕ) (before : has_reason_at ≡ reason_from table sheet j e) (h : j < e) (hk : k ≡ kind_in (record_bytes sheet j)) where
-    pub reason-stop : k ≡ 20 → false ≡ has_reason_at
-    unfolding any_of reason_from
-    reason-stop here = rw (before, arguments-stop sheet j e h (is-annotation sheet j k hk here))
+    module _ (has : Bool) (hh : has ≡ has_reason (context_by table sheet) (annotation_at sheet i e)) (place : Span) (hp : place ≡ span_in (record_bytes sheet i)) (v : Violation) (old new : Violations) (same : new.list.ghost_name ≡ old.list.ghost_name) (pushed : state_of new ≡ push_one v (state_of old)) where
+      pub deprecated-with :
+          has ≡ true → v ≡ record { class = 47; severity = 1; span = place } →
+          Adds old new (deprecated_violations (context_by table sheet) (annotation_at sheet i e))
+      unfolding rule_row annotation_at view_at
+      deprecated-with b hv = rw (← hh, b) (adds_one 21 _ old new same (pushed ∙ rw (hv, hp)))
 
-    module _ (c : ℕ) (other : k ≡ 20 → ⊥) (hc : c ≡ entry_of code_part table j) where
-      pub reason-found : c ≡ 7 → true ≡ has_reason_at
-      unfolding any_of reason_from view_at
-      reason-found f =
-          rw (before, arguments-next sheet j e h (is-other sheet j k hk other), word-here table sheet j 7 (omega arith) (omega arith) c hc f)
-
-      pub reason-next : (c ≡ 7 → ⊥) → has_reason_at ≡ reason_from table sheet (j + 1) e
-      unfolding any_of reason_from view_at
-      reason-next f =
-          rw (before, arguments-next sheet j e h (is-other sheet j k hk other), word-other table sheet j 7 (omega arith) (omega arith) c hc f)
-
-  pub reason-none : (j : ℕ) → has_reason_at ≡ reason_from table sheet j e → e ≤ j → false ≡ has_reason_at
-  unfolding any_of reason_from
-  reason-none j before h = rw (before, arguments-none sheet j e h)
-
-  module _ (has : Bool) (hh : has ≡ has_reason_at) (place : Span) (hp : place ≡ span_in (record_bytes sheet i)) (v : Violation) (s t : State) (pushed : t ≡ push_one v s) where
-    pub deprecated-with :
-        has ≡ true → v ≡ record { class = 47; severity = 1; span = place } →
-        t ≡ push_found (deprecated_violations (context_by table sheet) (annotation_at sheet i e)) s
-    unfolding rule_row push_found push_all annotation_at view_at
-    deprecated-with b hv = rw (pushed, hv, hp, sym hh ∙ b)
-
-    pub deprecated-without :
-        has ≡ false → v ≡ record { class = 47; severity = 0; span = place } →
-        t ≡ push_found (deprecated_violations (context_by table sheet) (annotation_at sheet i e)) s
-    unfolding rule_row push_found push_all annotation_at view_at
-    deprecated-without b hv = rw (pushed, hv, hp, sym hh ∙ b)
+      pub deprecated-without :
+          has ≡ false → v ≡ record { class = 47; severity = 0; span = place } →
+          Adds old new (deprecated_violations (context_by table sheet) (annotation_at sheet i e))
+      unfolding rule_row annotation_at view_at
+      deprecated-without b hv = rw (← hh, b) (adds_one 20 _ old new same (pushed ∙ rw (hv, hp)))

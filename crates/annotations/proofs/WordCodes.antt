@@ -1,13 +1,17 @@
--- A name's code tells its word: the codes of the words are 1 to 7.
+-- A name's code tells its word, as the rules count the words: their codes are 1 to 7, and that of the name with no bytes is 8.
 use Prim.Native.Nat.{ℕ, ◌≤◌, ◌<◌}
 use mathlib.Core.Path.{◌≡◌, refl, ◌∙◌}
 use mathlib.Core.Bool.{Bool, true, false, ◌&&◌}
 use mathlib.Core.List.{List}
 use native.Mathlib.Omega.{arith}
 use lib.Dec.{eqb, leb}
-use borrow.Author.Tests.{eq-eqb, ne_eqb, eqb-true, leb-false}
+use borrow.Author.Tests.{ne_eqb, leb-false}
+use Rattle.std.specs.Prelude.{Some, None}
+use Rattle.std.proofs.lemmas.Grind.{common_steps}
 use Rattle.rules.specs.Words.{number_if}
 use Rattle.names.specs.View.{entry_of, code_part, context_by}
+use Rattle.annotations.specs.declared.word.Word.{Word}
+use Rattle.annotations.specs.WordOf.{word_of, code_of}
 
 by-range :
     (c w : ℕ) (low high : Bool) → leb 1 c ≡ low → leb c 7 ≡ high → 1 ≤ w → w ≤ 7 →
@@ -26,11 +30,15 @@ module _ (table sheet : List ℕ) (i w : ℕ) (f : 1 ≤ w) (t : w ≤ 7) (c : �
   unfolding context_by
   word-is = rw hc (by-range (entry_of code_part table i) w _ _ refl refl f t)
 
-  pub word-here : c ≡ w → eqb ((context_by table sheet).word i) w ≡ true
-  word-here h = word-is ∙ eq-eqb c w h
-
   pub word-other : (c ≡ w → ⊥) → eqb ((context_by table sheet).word i) w ≡ false
   word-other h = word-is ∙ ne_eqb c w h
 
-  pub code-word : c ≡ w → (context_by table sheet).word i ≡ w
-  code-word h = eqb-true _ _ (word-here h)
+-- a code that is a word's is its code
+pub coded : (c : ℕ) (w : Word) → word_of c ≡ Some w → c ≡ code_of w
+unfolding word_of
+coded c w h = grind (arith, common_steps)
+
+-- a code that is no word's is none of the codes
+pub uncoded : (c : ℕ) (w : Word) → word_of c ≡ None → c ≡ code_of w → ⊥
+unfolding word_of
+uncoded c w h e = grind (arith, common_steps)

@@ -3,6 +3,8 @@ pub mod Slots
 pub mod Met
 pub mod MetSlots
 pub mod MetRow
+pub mod WordOf
+pub mod Target
 pub mod Each
 pub mod Earlier
 pub mod FirstWith

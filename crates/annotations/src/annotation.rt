@@ -1,58 +1,70 @@
 // Rules 14 to 21: one annotation of a field.
-ghost use Rattle.std.specs.Prelude.{◌≡◌, List, ℕ};
-ghost use Rattle.rules.specs.declared.answer.Counts.{Counts};
 ghost use Rattle.rules.specs.Annotations.{annotation_violations};
-ghost use Rattle.names.specs.View.{view_of, context_by};
-ghost use Rattle.diagnostic.specs.Push.{push_found};
-ghost use Rattle.annotations.specs.AnnotationAt.{annotation_at};
+ghost use Rattle.names.specs.Known.{context_in, records_in};
+ghost use Rattle.names.specs.View.{view_at};
+ghost use Rattle.diagnostic.specs.Violations.{Adds};
+ghost use Rattle.annotations.specs.AnnotationAt.{annotation_in};
+ghost use Rattle.annotations.specs.Target.{target_violations};
 
 use crate::deprecated::check_deprecated_has_reason;
 use crate::limit::check_limit_value;
-use crate::words;
-use rules::{Counts, Violation};
+use crate::word::Word;
+use diagnostic::Violations;
+use names::ValidationContext;
+use rules::{RecordRange, Violation};
 
-// Adds what is wrong with the annotation at record `i` of a field whose type stands from record `ta` up to record `te`. Its arguments
-// are the records up to the next annotation or record `e`.
-pub fn check_annotation(
-    sheet: &[u8],
-    table: &[u16; 5122],
-    list: &mut [u8],
-    counts: Counts,
+// Adds the error of an annotation with that word at record `i`, if a field of that type may not have it.
+fn check_target(
+    context: ValidationContext,
+    violations: &mut Violations,
+    word: Word,
     i: usize,
-    e: usize,
-    ta: usize,
-    te: usize,
-) -> Counts
-    ensures { ◌≡◌ {A = List ℕ × Counts} (list.new, result) (push_found (annotation_violations (context_by table.now sheet.now) (view_of sheet.now ta te) (annotation_at sheet.now i e)) (list.old, counts)) }
+    ty: RecordRange,
+)
+    ensures { Adds violations.old violations.new (target_violations word (records_in context.entry ty) (view_at context.entry.sheet.now i).place) }
 {
-    let span = sheet::span(sheet, i);
-    match names::code(table, i) {
-        words::VARINT => {
-            // rule 14
-            let valid = types::is_varint_valid_type(sheet, ta, te);
-            let violation = Violation::error(span, Violation::VarintInvalidTarget);
-            diagnostic::push_if(list, counts, !valid, violation)
-        }
-        words::ZIGZAG => {
-            // rule 15
-            let valid = types::is_zigzag_valid_type(sheet, ta, te);
-            let violation = Violation::error(span, Violation::ZigzagInvalidTarget);
-            diagnostic::push_if(list, counts, !valid, violation)
-        }
-        words::DELTA => {
-            // rule 16
-            let valid = types::is_delta_valid_type(sheet, ta, te);
-            let violation = Violation::error(span, Violation::DeltaInvalidTarget);
-            diagnostic::push_if(list, counts, !valid, violation)
-        }
-        words::LIMIT => {
-            // rule 17
-            let valid = types::is_limit_valid_type(sheet, ta, te);
-            let violation = Violation::error(span, Violation::LimitInvalidTarget);
-            let counts = diagnostic::push_if(list, counts, !valid, violation);
-            check_limit_value(sheet, table, list, counts, i, e, ta, te)
-        }
-        words::DEPRECATED => check_deprecated_has_reason(sheet, table, list, counts, i, e),
-        _ => counts,
+    let (valid, class) = match word {
+        // rule 14
+        Word::Varint => (
+            types::is_varint_valid_type(context.sheet, ty.start, ty.end),
+            Violation::VarintInvalidTarget,
+        ),
+        // rule 15
+        Word::Zigzag => (
+            types::is_zigzag_valid_type(context.sheet, ty.start, ty.end),
+            Violation::ZigzagInvalidTarget,
+        ),
+        // rule 16
+        Word::Delta => (
+            types::is_delta_valid_type(context.sheet, ty.start, ty.end),
+            Violation::DeltaInvalidTarget,
+        ),
+        // rule 17
+        Word::Limit => (
+            types::is_limit_valid_type(context.sheet, ty.start, ty.end),
+            Violation::LimitInvalidTarget,
+        ),
+        _ => return,
+    };
+    violations.error_if(!valid, context.sheet, i, class);
+}
+
+// Adds what is wrong with the annotation at the first record of a field of that type. Its arguments are the records after it, up to the next annotation.
+pub fn check_annotation(
+    context: ValidationContext,
+    violations: &mut Violations,
+    annotation: RecordRange,
+    ty: RecordRange,
+)
+    ensures { Adds violations.old violations.new (annotation_violations (context_in context.entry) (records_in context.entry ty) (annotation_in context.entry annotation)) }
+{
+    let Some(word) = Word::at(context, annotation.start) else {
+        return;
+    };
+    check_target(context, violations, word, annotation.start, ty);
+    match word {
+        Word::Limit => check_limit_value(context, violations, annotation, ty),
+        Word::Deprecated => check_deprecated_has_reason(context, violations, annotation),
+        _ => {}
     }
 }

@@ -1,58 +1,39 @@
 // Rules 20 and 21: `deprecated` says why.
-ghost use Rattle.std.specs.Prelude.{◌≡◌, List, ℕ};
-ghost use Rattle.rules.specs.declared.answer.Counts.{Counts};
+ghost use Rattle.std.specs.Prelude.{◌≡◌};
 ghost use Rattle.rules.specs.Annotations.{has_reason, deprecated_violations};
-ghost use Rattle.names.specs.View.{context_by};
-ghost use Rattle.diagnostic.specs.Push.{push_found};
-ghost use Rattle.annotations.specs.AnnotationAt.{annotation_at};
+ghost use Rattle.names.specs.Known.{context_in};
+ghost use Rattle.diagnostic.specs.Violations.{Adds};
+ghost use Rattle.annotations.specs.AnnotationAt.{annotation_in};
 
-use crate::records::after;
-use crate::words;
-use rules::{Counts, Violation};
-use sheet::kinds;
+use crate::arguments::arguments;
+use crate::word::{Word, is_word};
+use diagnostic::Violations;
+use names::ValidationContext;
+use rules::{RecordRange, Violation};
 
-// Whether the annotation at record `i` has a key `reason`.
-pub fn has_reason(sheet: &[u8], table: &[u16; 5122], i: usize, e: usize) -> bool
-    ensures { result ≡ has_reason (context_by table.now sheet.now) (annotation_at sheet.now i e) }
+// Whether the annotation at the first record has a key `reason`.
+pub fn has_reason(context: ValidationContext, annotation: RecordRange) -> bool
+    ensures { result ≡ has_reason (context_in context.entry) (annotation_in context.entry annotation) }
 {
-    let mut j = after(i, e);
-    while j < e {
-        if sheet::kind(sheet, j) == kinds::ANNOTATION {
-            return false;
-        }
-        if names::code(table, j) == words::REASON {
-            return true;
-        }
-        j += 1;
-    }
-    false
+    let arguments = arguments(context.sheet, annotation);
+    (arguments.start..arguments.end).any(|j| is_word(context, j, Word::Reason))
 }
 
-// Adds the error of a `deprecated` without a reason, or the warning of one with a reason, at record `i`. Its arguments are the records
-// up to the next annotation or record `e`.
+// Adds the error of a `deprecated` without a reason, or the warning of one with a reason, at the first record. Its arguments are those after it, up to
+// the next annotation.
 pub fn check_deprecated_has_reason(
-    sheet: &[u8],
-    table: &[u16; 5122],
-    list: &mut [u8],
-    counts: Counts,
-    i: usize,
-    e: usize,
-) -> Counts
-    ensures { ◌≡◌ {A = List ℕ × Counts} (list.new, result) (push_found (deprecated_violations (context_by table.now sheet.now) (annotation_at sheet.now i e)) (list.old, counts)) }
+    context: ValidationContext,
+    violations: &mut Violations,
+    annotation: RecordRange,
+)
+    ensures { Adds violations.old violations.new (deprecated_violations (context_in context.entry) (annotation_in context.entry annotation)) }
 {
-    let span = sheet::span(sheet, i);
-    if has_reason(sheet, table, i, e) {
+    let span = sheet::span(context.sheet, annotation.start);
+    if has_reason(context, annotation) {
         // rule 21
-        return diagnostic::push(
-            list,
-            counts,
-            Violation::warning(span, Violation::DeprecatedMissingReason),
-        );
+        violations.push(Violation::warning(span, Violation::DeprecatedMissingReason));
+    } else {
+        // rule 20
+        violations.push(Violation::error(span, Violation::DeprecatedMissingReason));
     }
-    // rule 20
-    diagnostic::push(
-        list,
-        counts,
-        Violation::error(span, Violation::DeprecatedMissingReason),
-    )
 }

@@ -2,14 +2,14 @@
 #![tactic(auto)]
 
 mod annotation;
+mod arguments;
 mod combined;
 mod deprecated;
 mod duplicates;
 mod field;
 mod limit;
 mod met;
-mod records;
-mod words;
+mod word;
 
 pub use deprecated::check_deprecated_has_reason;
 pub use duplicates::check_duplicate_annotations;

@@ -1,81 +1,63 @@
 // Rules 18 and 19: the value of a `limit`.
-ghost use Rattle.std.specs.Prelude.{◌≡◌, List, ℕ};
-ghost use Rattle.rules.specs.declared.answer.Counts.{Counts};
+ghost use Rattle.std.specs.Prelude.{◌≡◌};
 ghost use Rattle.rules.specs.Annotations.{limit_value_violations};
-ghost use Rattle.names.specs.View.{view_at, view_of, context_by};
-ghost use Rattle.diagnostic.specs.Push.{push_found};
-ghost use Rattle.annotations.specs.AnnotationAt.{annotation_at, is_number_at};
+ghost use Rattle.names.specs.Known.{table_of, context_in, records_in};
+ghost use Rattle.names.specs.View.{view_at};
+ghost use Rattle.diagnostic.specs.Violations.{Adds};
+ghost use Rattle.annotations.specs.AnnotationAt.{annotation_in, is_number_at};
 ghost use Rattle.annotations.specs.LimitViolations.{limit_violations};
 
-use crate::records::after;
-use crate::words;
-use rules::{Counts, Violation};
-use sheet::kinds;
-
-// The greatest limit.
-const MAX_LIMIT: u64 = 16777216;
+use crate::arguments::arguments;
+use crate::word::{Word, is_word};
+use diagnostic::Violations;
+use names::ValidationContext;
+use rules::{RecordRange, Sheet, Violation};
 
 // The greatest sub of an argument that is a number: `Int` is 0, `Hex` is 1.
 const HEX: u8 = 1;
 
 // Whether record `j` is a number without a key.
-pub fn is_number(sheet: &[u8], table: &[u16; 5122], j: usize) -> bool
-    ensures { result ≡ is_number_at table.now sheet.now j }
+#[tactic(auto, using(crate::proofs::Limits::number_is))]
+pub fn is_number(context: ValidationContext, j: usize) -> bool
+    ensures { result ≡ is_number_at (table_of context.entry) context.entry.sheet.now j }
 {
-    let code = names::code(table, j);
-    let sub = sheet::sub(sheet, j);
-    (code == words::BLANK) & (sub <= HEX)
+    is_word(context, j, Word::Blank) & (sheet::sub(context.sheet, j) <= HEX)
 }
 
-// Adds what is wrong with argument `j` of the limit at record `i`, for a type from record `ta` up to record `te`.
+// Adds what is wrong with argument `j` of the limit at record `i`, for that type.
 pub fn check_argument(
-    sheet: &[u8],
-    table: &[u16; 5122],
-    list: &mut [u8],
-    counts: Counts,
+    context: ValidationContext,
+    violations: &mut Violations,
     i: usize,
     j: usize,
-    ta: usize,
-    te: usize,
-) -> Counts
-    ensures { ◌≡◌ {A = List ℕ × Counts} (list.new, result) (push_found (limit_value_violations (context_by table.now sheet.now) (view_of sheet.now ta te) (view_at sheet.now i).place (view_at sheet.now j)) (list.old, counts)) }
+    ty: RecordRange,
+)
+    ensures { Adds violations.old violations.new (limit_value_violations (context_in context.entry) (records_in context.entry ty) (view_at context.entry.sheet.now i).place (view_at context.entry.sheet.now j)) }
 {
-    if !is_number(sheet, table, j) {
-        return counts;
+    if !is_number(context, j) {
+        return;
     }
-    let value = sheet::value(sheet, j);
-    let span = sheet::span(sheet, i);
+    let value = sheet::value(context.sheet, j);
     // rule 18
-    let zero = Violation::error(span, Violation::LimitZero);
-    let counts = diagnostic::push_if(list, counts, value == 0, zero);
+    violations.error_if(value == 0, context.sheet, i, Violation::LimitZero);
     // rule 19
-    let capped = types::is_limit_capped_type(sheet, ta, te);
-    let exceeds = Violation::error(span, Violation::LimitExceedsGlobal);
-    diagnostic::push_if(list, counts, (MAX_LIMIT < value) & capped, exceeds)
+    let capped = types::is_limit_capped_type(context.sheet, ty.start, ty.end);
+    let exceeds = (Sheet::MAX_LIMIT < value) & capped;
+    violations.error_if(exceeds, context.sheet, i, Violation::LimitExceedsGlobal);
 }
 
-// Adds what is wrong with each argument of the limit at record `i`, for a type from record `ta` up to record `te`. Its arguments are the
-// records up to the next annotation or record `e`.
+// Adds what is wrong with each argument of the limit at the first record, for that type. They are the records after it, up to the next annotation.
+#[tactic(auto, using(crate::proofs::Remaining::remains_all, crate::proofs::Remaining::remains_next))]
 pub fn check_limit_value(
-    sheet: &[u8],
-    table: &[u16; 5122],
-    list: &mut [u8],
-    counts: Counts,
-    i: usize,
-    e: usize,
-    ta: usize,
-    te: usize,
-) -> Counts
-    ensures { ◌≡◌ {A = List ℕ × Counts} (list.new, result) (push_found (limit_violations (context_by table.now sheet.now) (view_of sheet.now ta te) (annotation_at sheet.now i e)) (list.old, counts)) }
+    context: ValidationContext,
+    violations: &mut Violations,
+    annotation: RecordRange,
+    ty: RecordRange,
+)
+    ensures { Adds violations.old violations.new (limit_violations (context_in context.entry) (records_in context.entry ty) (annotation_in context.entry annotation)) }
 {
-    let mut counts = counts;
-    let mut j = after(i, e);
-    while j < e {
-        if sheet::kind(sheet, j) == kinds::ANNOTATION {
-            return counts;
-        }
-        counts = check_argument(sheet, table, list, counts, i, j, ta, te);
-        j += 1;
+    let arguments = arguments(context.sheet, annotation);
+    for j in arguments.start..arguments.end {
+        check_argument(context, violations, annotation.start, j, ty);
     }
-    counts
 }

@@ -26,9 +26,8 @@ fn has_name_at(context: ValidationContext, kind: u8, j: usize, id: u16) -> bool
 }
 
 // Whether a record of that kind from record `start` up to record `i` has that name, by all of them.
-fn is_among(context: ValidationContext, kind: u8, start: usize, i: usize, id: u16) -> bool
-    ensures found { result ≡ true → (j : ℕ) × (start ≤ j) × (j < i) × (names_at context.entry kind id j ≡ true) }
-    ensures none { result ≡ false → (j : ℕ) → start ≤ j → j < i → names_at context.entry kind id j ≡ false }
+pub fn is_among(context: ValidationContext, kind: u8, start: usize, i: usize, id: u16) -> bool
+    ensures { result ≡ has_name context.entry kind start id i }
 {
     (start..i).any(|j| has_name_at(context, kind, j, id))
 }

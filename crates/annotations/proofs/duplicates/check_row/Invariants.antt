@@ -1,17 +1,12 @@
-use Rattle.std.proofs.Common.{◌≡◌, ◌≤◌, ◌-◌, [], length}
+use Rattle.std.proofs.Common.{◌≡◌, []}
 use Rattle.rules.specs.Annotations.{annotations_of, duplicate_annotations}
-use Rattle.names.specs.View.{view_of, context_by}
-use Rattle.diagnostic.specs.Push.{push_found}
+use Rattle.names.specs.Known.{table_of, context_in, records_in}
+use Rattle.annotations.proofs.Remaining.{Remains}
 use Rattle.annotations.proofs.Repeats.{duplicates_from}
 use Rattle.annotations.proofs.duplicates.check_row.Given as goal
 
 abbrev pub invariant-loop-i : goal.invariant-loop-i
 invariant-loop-i l =
-    (l.a ≤ l.i)
-    × (length l.list ≡ length l.fn.list)
-    × (l.met ≡ record { sheet = l.sheet; table = l.table; kind = 20; start = l.a })
-    × (push_found (duplicates_from l.table l.sheet l.a l.e l.i) (l.list, l.counts)
-    ≡ push_found (duplicate_annotations (context_by l.table l.sheet) [] (annotations_of (view_of l.sheet l.a l.e))) (l.fn.list, l.fn.counts))
-
-abbrev pub decreases-loop-i : goal.decreases-loop-i
-decreases-loop-i l = l.e - l.i
+    Remains l.fn.violations l.violations (duplicate_annotations (context_in l.context) [] (annotations_of (records_in l.context l.fn.annotations)))
+    (duplicates_from (table_of l.context) l.context.sheet.now l.fn.annotations.start l.fn.annotations.end l.i)
+    × (l.names ≡ record { sheet = l.context.sheet.now; table = table_of l.context; kind = 20; start = l.fn.annotations.start })

@@ -1,6 +1,5 @@
 -- The slot tells, or all are asked.
-use Rattle.annotations.proofs.Slots.{slot-none, slot-found, all-asked}
-use Rattle.annotations.specs.MetSlots.{names_at}
+use Rattle.annotations.proofs.Slots.{slot-none, slot-found}
 use Rattle.annotations.proofs.met.has_name.Goals as goal
 
 pub returns-then-behind-start : goal.returns-then-behind-start
@@ -8,7 +7,3 @@ returns-then-behind-start c = slot-none _ _ _ _ _ _ _ _ c.requires c.slot.ensure
 
 pub returns-then-id : goal.returns-then-id
 returns-then-id c = slot-found _ _ _ _ _ _ _ _ c.requires c.slot.ensures.0 c.from-behind.ensures _ c.if-behind-start.false c.id.ensures c.if-id.true
-
-pub returns : goal.returns
-unfolding names_at
-returns c = all-asked _ _ _ _ _ _ c.is_among.ensures.found c.is_among.ensures.none
