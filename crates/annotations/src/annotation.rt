@@ -26,22 +26,22 @@ fn check_target(
     let (valid, class) = match word {
         // rule 14
         Word::Varint => (
-            types::is_varint_valid_type(context.sheet, ty.start, ty.end),
+            types::is_varint_valid_type(context.sheet, ty),
             Violation::VarintInvalidTarget,
         ),
         // rule 15
         Word::Zigzag => (
-            types::is_zigzag_valid_type(context.sheet, ty.start, ty.end),
+            types::is_zigzag_valid_type(context.sheet, ty),
             Violation::ZigzagInvalidTarget,
         ),
         // rule 16
         Word::Delta => (
-            types::is_delta_valid_type(context.sheet, ty.start, ty.end),
+            types::is_delta_valid_type(context.sheet, ty),
             Violation::DeltaInvalidTarget,
         ),
         // rule 17
         Word::Limit => (
-            types::is_limit_valid_type(context.sheet, ty.start, ty.end),
+            types::is_limit_valid_type(context.sheet, ty),
             Violation::LimitInvalidTarget,
         ),
         _ => return,

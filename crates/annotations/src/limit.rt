@@ -41,7 +41,7 @@ pub fn check_argument(
     // rule 18
     violations.error_if(value == 0, context.sheet, i, Violation::LimitZero);
     // rule 19
-    let capped = types::is_limit_capped_type(context.sheet, ty.start, ty.end);
+    let capped = types::is_limit_capped_type(context.sheet, ty);
     let exceeds = (Sheet::MAX_LIMIT < value) & capped;
     violations.error_if(exceeds, context.sheet, i, Violation::LimitExceedsGlobal);
 }
