@@ -1,17 +1,17 @@
--- Whether a record of a kind has a number, asked of one record after the other.
-use Prim.Native.Nat.{ℕ, ◌+◌, ◌-◌, ◌≤◌, ◌<◌}
+-- Whether a record of a kind has a number is whether the number is a value of the records of that kind, in either order.
+use Prim.Native.Nat.{ℕ, zero, suc, ◌+◌, ◌-◌, ◌≤◌, ◌<◌}
 use native.Mathlib.Omega.{arith}
+use native.Mathlib.Decide.{ℕ_discrete}
 use mathlib.Core.Path.{◌≡◌, refl, sym, ap, ◌∙◌}
-use mathlib.Core.Bool.{Bool, true, false, ◌&&◌, ◌||◌, or-false}
+use mathlib.Core.Bool.{Bool, true, false, ◌&&◌, ◌||◌, or-true}
 use mathlib.Core.List.{List, [], ◌∷◌, ◌++◌}
 use lib.Dec.{eqb}
 use Rattle.rules.specs.declared.span.Span.{Span}
 use Rattle.rules.specs.Words.{only_if, any_of, member, select}
-use Rattle.rules.specs.Record.{Rec, is, kind_in, value_in, record_bytes}
-use Rattle.names.specs.View.{view_at, view_of}
-use Rattle.types.proofs.Views.{view-cons, view-none}
-use Rattle.bodies.specs.Earlier.{values_of, earlier, values_before}
-use Rattle.bodies.proofs.Passing.{values, earlier-next}
+use Rattle.rules.specs.Record.{Rec, is}
+use Rattle.names.specs.View.{view_at, view_from, view_of}
+use Rattle.bodies.specs.Earlier.{values_of, earlier, values_before, has_value}
+use Rattle.bodies.proofs.Passing.{values}
 
 -- the first of the records, or one of those after it
 member-first :
@@ -20,48 +20,74 @@ unfolding any_of
 member-first x true r rs = refl
 member-first x false r rs = refl
 
-or_swap : (a b c : Bool) → ((a || b) || c) ≡ (b || (a || c))
-or_swap true true c = refl
-or_swap true false c = refl
-or_swap false b c = refl
+module _ (sheet : List ℕ) (kind x : ℕ) where
+  -- record a, and other records of the kind
+  here-or : (a : ℕ) (rs : List (Rec ℕ Span)) → member x (values (only_if (is kind (view_at sheet a)) (view_at sheet a ∷ []) ++ rs)) ≡ (has_value kind sheet x a || member x (values rs))
+  unfolding view_at has_value
+  here-or a rs = member-first x (is kind (view_at sheet a)) (view_at sheet a) rs
 
-module _ (sheet : List ℕ) (kind a e x : ℕ) where
-  -- the records before i were asked
-  abbrev pub Asked : Bool → ℕ → Type 0
-  Asked found i =
-      (a ≤ i)
-      × (i ≤ e)
-      × (found ≡ member x (values_before kind sheet a i))
-      × ((found || member x (values_of kind (view_of sheet i e))) ≡ member x (values_of kind (view_of sheet a e)))
+  here-yes : (a : ℕ) (rs : List (Rec ℕ Span)) → has_value kind sheet x a ≡ true → true ≡ member x (values (only_if (is kind (view_at sheet a)) (view_at sheet a ∷ []) ++ rs))
+  here-yes a rs h = sym (here-or a rs ∙ ap (λ b. b || member x (values rs)) h)
 
-  pub asked-none : a ≤ e → Asked false a
-  unfolding any_of earlier
-  asked-none le = let none : a - a ≡ 0 = omega arith in (omega arith, le, rw none, refl)
+  here-no :
+      (a : ℕ) (rs : List (Rec ℕ Span)) → has_value kind sheet x a ≡ false →
+      member x (values rs) ≡ member x (values (only_if (is kind (view_at sheet a)) (view_at sheet a ∷ []) ++ rs))
+  here-no a rs h = sym (here-or a rs ∙ ap (λ b. b || member x (values rs)) h)
 
-  pub asked-next :
-      (found : Bool) (i k v : ℕ) → Asked found i → i < e → k ≡ kind_in (record_bytes sheet i) → v ≡ value_in (record_bytes sheet i) →
-      Asked ((eqb k kind && eqb x v) || found) (i + 1)
-  unfolding view_at values_of select
-  asked-next found i k v asked h hk hv =
-      let here : (eqb k kind && eqb x v) ≡ (is kind (view_at sheet i) && eqb x (view_at sheet i).value) = rw (hk, hv) in (
-        omega arith,
-        omega arith,
-        rw here
-            (ap (λ b. (is kind (view_at sheet i) && eqb x (view_at sheet i).value) || b) asked.2
-            ∙ sym (ap (λ rs. member x (values rs)) (earlier-next kind sheet a i asked.0) ∙ member-first x (is kind (view_at sheet i)) (view_at sheet i) (earlier kind sheet a (i - a)))),
-        or_swap (eqb k kind && eqb x v) found (member x (values_of kind (view_of sheet (i + 1) e)))
-            ∙ ap (λ b. found || b)
-            (ap (λ b. b || member x (values_of kind (view_of sheet (i + 1) e))) here
-            ∙ sym (ap (λ rs. member x (values_of kind rs)) (view-cons sheet i e h) ∙ member-first x (is kind (view_at sheet i)) (view_at sheet i) (select (is kind) (view_of sheet (i + 1) e))))
-            ∙ asked.3,
-      )
+  here-later :
+      (a : ℕ) (rs : List (Rec ℕ Span)) → true ≡ member x (values rs) →
+      true ≡ member x (values (only_if (is kind (view_at sheet a)) (view_at sheet a ∷ []) ++ rs))
+  here-later a rs h = sym (here-or a rs ∙ ap (λ b. has_value kind sheet x a || b) (sym h) ∙ or-true (has_value kind sheet x a))
 
-  pub asked-all :
-      (found : Bool) (i : ℕ) → Asked found i → e ≤ i →
-      (found ≡ member x (values_of kind (view_of sheet a e))) × (found ≡ member x (values_before kind sheet a e))
-  unfolding any_of values_of select
-  asked-all found i asked h =
-      let last : i ≡ e = omega (arith, asked.1) in (
-        sym (or-false found) ∙ ap (λ rs. found || member x (values_of kind rs)) (sym (view-none sheet i e h)) ∙ asked.3,
-        asked.2 ∙ ap (λ j. member x (values_before kind sheet a j)) last,
-      )
+  some-of : (n a i : ℕ) → a ≤ i → i < a + n → has_value kind sheet x i ≡ true → true ≡ member x (values_of kind (view_from sheet a n))
+  unfolding view_from values_of select
+  some-of zero a i l h t = absurd (omega arith)
+  some-of (suc n) a i l h t = by (λ m. some-of n (suc a) i m (omega arith) t) (ℕ_discrete i a)
+    where
+      by :
+          (suc a ≤ i → true ≡ member x (values_of kind (view_from sheet (suc a) n))) → Dec (i ≡ a) →
+          true ≡ member x (values_of kind (view_from sheet a (suc n)))
+      by later (yes same) = here-yes a (select (is kind) (view_from sheet (suc a) n)) (ap (has_value kind sheet x) (sym same) ∙ t)
+      by later (no differ) = here-later a (select (is kind) (view_from sheet (suc a) n)) (later (omega arith))
+
+  none-of : (n a : ℕ) → ((i : ℕ) → a ≤ i → i < a + n → has_value kind sheet x i ≡ false) → false ≡ member x (values_of kind (view_from sheet a n))
+  unfolding view_from values_of select any_of
+  none-of zero a all = refl
+  none-of (suc n) a all =
+      none-of n (suc a) (λ i l h. all i (omega arith) (omega arith))
+      ∙ here-no a (select (is kind) (view_from sheet (suc a) n)) (all a (omega arith) (omega arith))
+
+  some-before : (n a i : ℕ) → a ≤ i → i < a + n → has_value kind sheet x i ≡ true → true ≡ member x (values (earlier kind sheet a n))
+  unfolding earlier
+  some-before zero a i l h t = absurd (omega arith)
+  some-before (suc n) a i l h t = by (λ m. some-before n a i l m t) (ℕ_discrete i (a + n))
+    where
+      by : (i < a + n → true ≡ member x (values (earlier kind sheet a n))) → Dec (i ≡ a + n) → true ≡ member x (values (earlier kind sheet a (suc n)))
+      by before (yes same) = here-yes (a + n) (earlier kind sheet a n) (ap (has_value kind sheet x) (sym same) ∙ t)
+      by before (no differ) = here-later (a + n) (earlier kind sheet a n) (before (omega arith))
+
+  none-before : (n a : ℕ) → ((i : ℕ) → a ≤ i → i < a + n → has_value kind sheet x i ≡ false) → false ≡ member x (values (earlier kind sheet a n))
+  unfolding earlier any_of
+  none-before zero a all = refl
+  none-before (suc n) a all =
+      none-before n a (λ i l h. all i l (omega arith)) ∙ here-no (a + n) (earlier kind sheet a n) (all (a + n) (omega arith) (omega arith))
+
+  module _
+      (a e : ℕ)
+      (found : Bool)
+      (some : found ≡ true → (i : ℕ) × (a ≤ i) × (i < e) × (has_value kind sheet x i ≡ true))
+      (none : found ≡ false → (i : ℕ) → a ≤ i → i < e → has_value kind sheet x i ≡ false)
+    where
+      pub among-values : found ≡ member x (values_of kind (view_of sheet a e))
+      among-values = by found refl
+        where
+          by : (b : Bool) → found ≡ b → found ≡ member x (values_of kind (view_of sheet a e))
+          by true h = let s = some h in h ∙ some-of (e - a) a s.0 s.1 (omega (arith, s.1, s.2)) s.3
+          by false h = h ∙ none-of (e - a) a (λ i l k. none h i l (omega arith))
+
+      pub among-before : found ≡ member x (values_before kind sheet a e)
+      among-before = by found refl
+        where
+          by : (b : Bool) → found ≡ b → found ≡ member x (values_before kind sheet a e)
+          by true h = let s = some h in h ∙ some-before (e - a) a s.0 s.1 (omega (arith, s.1, s.2)) s.3
+          by false h = h ∙ none-before (e - a) a (λ i l k. none h i l (omega arith))

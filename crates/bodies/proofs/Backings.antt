@@ -6,28 +6,23 @@ use mathlib.Core.List.{List, [], ◌∷◌, ◌++◌, flat_map}
 use lib.Dec.{eqb, ltb}
 use borrow.Author.Tests.{eq-eqb, ne_eqb}
 use Rattle.rules.specs.declared.span.Span.{Span}
-use Rattle.rules.specs.declared.violation.Violation.{Violation}
-use Rattle.rules.specs.Words.{only_if, any_of, select, front, look_up, Item, items}
+use Rattle.rules.specs.Words.{only_if, any_of, select, front, Item, items}
 use Rattle.rules.specs.Kind
 use Rattle.rules.specs.Record.{Rec, is, record_bytes, kind_in, sub_in, value_in, span_in}
 use Rattle.rules.specs.Context.{ValidationContext}
 use Rattle.rules.specs.Grammar.{starts_item}
 use Rattle.rules.specs.Rule.{Found, rule_row, error, EnumBackingTooNarrow}
-use Rattle.rules.specs.Bodies.{used, retired, used_ordinal, used_ordinals, is_member, is_tombstone, slots, body_items, backing_max, backing_violations}
+use Rattle.rules.specs.Bodies.{used, retired, used_ordinal, used_ordinals, is_member, is_tombstone, slots, body_items, backing_max, backing_violations, enum_scheme, list_violations, enum_violations}
 use Rattle.rules.proofs.ItemCounts.{any-slots}
-use Rattle.sheet.proofs.Matched.{Unmatched}
 use Rattle.names.specs.View.{view_at, view_of}
-use Rattle.diagnostic.specs.Push.{State, push_if, push_found}
-use Rattle.diagnostic.proofs.FoundPushes.{found_none, found-if}
+use Rattle.diagnostic.specs.declared.violations.Violations.{Violations}
+use Rattle.diagnostic.specs.Push.{push_if, push_found}
+use Rattle.diagnostic.specs.Violations.{state_of, Adds}
+use Rattle.diagnostic.proofs.Added.{adds_none, adds_then, adds_if}
 use Rattle.types.proofs.Views.{view-cons, view-none}
 use Rattle.annotations.proofs.FoundSteps.{found-step, found-end}
 use Rattle.bodies.specs.Backing.{narrow_found, backings_from}
 use Rattle.bodies.proofs.BodyItems.{item-member, no_item}
-
--- a sub that no backing has
-pub no_sub : (sub : ℕ) → Unmatched sub (3 ∷ 2 ∷ 1 ∷ 0 ∷ []) → 0 ≡ backing_max sub
-unfolding look_up
-no_sub sub u = rw (look_up, ne_eqb sub 0 u.0.0.0.1, ne_eqb sub 1 u.0.0.1, ne_eqb sub 2 u.0.1, ne_eqb sub 3 u.1)
 
 module _ (p : ℕ → Bool) where
   -- an item's ordinal passes the test if it is in use
@@ -77,46 +72,61 @@ module _ (sheet : List ℕ) (e max : ℕ) where
       (kind : k ≡ kind_in (record_bytes sheet i))
       (value : n ≡ value_in (record_bytes sheet i))
     where
-      pub over-here : (eqb k Kind.Variant && ltb max n) ≡ true → true ≡ all
-      over-here test = sym (over-next i k n h kind value ∙ rw test) ∙ before
+      pub over_here : (eqb k Kind.Variant && ltb max n) ≡ true → true ≡ all
+      over_here test = sym (over-next i k n h kind value ∙ rw test) ∙ before
 
-      pub over-later : (eqb k Kind.Variant && ltb max n) ≡ false → over (i + 1) ≡ all
-      over-later test = sym (over-next i k n h kind value ∙ rw test) ∙ before
+      pub over_later : (eqb k Kind.Variant && ltb max n) ≡ false → over (i + 1) ≡ all
+      over_later test = sym (over-next i k n h kind value ∙ rw test) ∙ before
 
   pub over_none : (i : ℕ) (all : Bool) → over i ≡ all → e ≤ i → false ≡ all
   unfolding any_of items flat_map
   over_none i all before h = rw (view-none sheet i e h) at before
 
 -- the rule at one record
-module _ (sheet : List ℕ) (i a e k : ℕ) (s : State) (kind : k ≡ kind_in (record_bytes sheet i)) where
-  pub no-backing : (k ≡ Kind.Backing → ⊥) → s ≡ push_found (narrow_found (view_of sheet a e) (view_at sheet i)) s
+module _ (sheet : List ℕ) (i a e k : ℕ) (old : Violations) (kind : k ≡ kind_in (record_bytes sheet i)) where
+  pub no-backing : (k ≡ Kind.Backing → ⊥) → Adds old old (narrow_found (view_of sheet a e) (view_at sheet i))
   unfolding view_at narrow_found
-  no-backing h = rw (narrow_found, ← kind, ne_eqb k Kind.Backing h) (sym (found_none s))
+  no-backing h = rw (narrow_found, ← kind, ne_eqb k Kind.Backing h) (adds_none old)
 
   pub rule-33 :
-      (sub max : ℕ) (bad : Bool) (span : Span) (v : Violation) (t : State) → k ≡ Kind.Backing → sub ≡ sub_in (record_bytes sheet i) →
-      max ≡ backing_max sub → bad ≡ any_used (ltb max) (view_of sheet a e) → span ≡ span_in (record_bytes sheet i) →
-      v ≡ record { class = EnumBackingTooNarrow; severity = error; span = span } → t ≡ push_if bad v s →
-      t ≡ push_found (narrow_found (view_of sheet a e) (view_at sheet i)) s
+      (sub max : ℕ) (bad : Bool) (now : Violations) → k ≡ Kind.Backing → sub ≡ sub_in (record_bytes sheet i) → max ≡ backing_max sub →
+      bad ≡ any_used (ltb max) (view_of sheet a e) → now.list.ghost_name ≡ old.list.ghost_name →
+      state_of now ≡ push_if bad (record { class = EnumBackingTooNarrow; severity = error; span = span_in (record_bytes sheet i) }) (state_of old) →
+      Adds old now (narrow_found (view_of sheet a e) (view_at sheet i))
   unfolding view_at narrow_found rule_row
-  rule-33 sub max bad span v t h read greatest test place told push =
-      rw (narrow_found, ← kind, eq-eqb k Kind.Backing h, push, told, place, test, greatest, read) (found-if 33 _ _ s)
+  rule-33 sub max bad now h read greatest test reference state =
+      rw (narrow_found, ← kind, eq-eqb k Kind.Backing h, ← read, ← greatest, ← test) (adds_if 33 bad _ old now reference state)
 
 -- and at the records from i on
 module _ (sheet : List ℕ) (a e : ℕ) where
   abbrev left : ℕ → List (Found Span)
   left i = backings_from (view_of sheet a e) (view_of sheet i e)
 
-  pub backing-turn :
-      (i : ℕ) (s t u : State) → push_found (left i) s ≡ u → i < e →
-      t ≡ push_found (narrow_found (view_of sheet a e) (view_at sheet i)) s → push_found (left (i + 1)) t ≡ u
-  unfolding backings_from flat_map
-  backing-turn i s t u before h told =
-      found-step (left i) (narrow_found (view_of sheet a e) (view_at sheet i)) (left (i + 1)) s t u (rw (view-cons sheet i e h)) told before
+  -- what is still found there is left to add
+  pub record BackingsKnown (old now : Violations) (i : ℕ) : Type 0 where
+    pub reference : now.list.ghost_name ≡ old.list.ghost_name
+    pub found : push_found (left i) (state_of now) ≡ push_found (left a) (state_of old)
 
-  pub backings-end : (i : ℕ) (s u : State) → push_found (left i) s ≡ u → e ≤ i → s ≡ u
+  pub backings_none : (vs : Violations) → BackingsKnown vs vs a
+  backings_none vs = record { reference = refl; found = refl }
+
+  pub backings_next :
+      (old now next : Violations) (i : ℕ) → BackingsKnown old now i → i < e → Adds now next (narrow_found (view_of sheet a e) (view_at sheet i)) →
+      BackingsKnown old next (i + 1)
   unfolding backings_from flat_map
-  backings-end i s u before h = found-end (left i) s u (rw (view-none sheet i e h)) before
+  backings_next old now next i k h adds = record {
+    reference = adds.reference ∙ k.reference;
+    found =
+        found-step (left i) (narrow_found (view_of sheet a e) (view_at sheet i)) (left (i + 1)) (state_of now) (state_of next) _ (rw (view-cons sheet i e h)) adds.state
+        k.found;
+  }
+
+  pub backings_end : (old now : Violations) (i : ℕ) → BackingsKnown old now i → e ≤ i → Adds old now (left a)
+  unfolding backings_from flat_map
+  backings_end old now i k h = record {
+    reference = k.reference;
+    state = found-end (left i) (state_of now) _ (rw (view-none sheet i e h)) k.found;
+  }
 
 -- what is found at the records that pass a test is found record by record
 flat_map-select :
@@ -135,3 +145,10 @@ flat_map-select p f (x ∷ xs) = go (p x) (flat_map-select p f xs)
 pub backings-all : {N P : Type 0} (ctx : ValidationContext N P) (body : List (Rec N P)) → backing_violations ctx body ≡ backings_from body body
 unfolding narrow_found backings_from
 backings-all ctx body = flat_map-select (is Kind.Backing) _ body
+
+-- the variants, and then the backing
+pub enum-found :
+    (ctx : ValidationContext ℕ Span) (body : List (Rec ℕ Span)) (old mid now : Violations) →
+    Adds old mid (list_violations ctx enum_scheme (λ it. []) (body_items body)) → Adds mid now (backings_from body body) → Adds old now (enum_violations ctx body)
+unfolding enum_violations
+enum-found ctx body old mid now variants backings = adds_then _ _ _ _ _ variants (rw (backings-all ctx body) backings)

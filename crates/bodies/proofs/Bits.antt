@@ -1,9 +1,6 @@
 -- Rule 34: of the records of flags, each bit is asked for its position, and nothing else is told.
-use Prim.Native.Nat.{ℕ, ◌+◌, ◌<◌, ◌≤◌}
-use mathlib.Core.Path.{◌≡◌, refl, sym, ap, ◌∙◌}
-use mathlib.Core.Bool.{Bool, true, false, ◌&&◌}
-use mathlib.Core.List.{List, [], ◌∷◌, ◌++◌, append-nil, flat_map}
-use lib.Dec.{eqb, ltb}
+use Rattle.std.proofs.Common.{◌≡◌, ℕ, Bool, true, false, ◌&&◌, List, [], ◌∷◌, refl, append-nil, eqb, ltb}
+use mathlib.Core.List.{flat_map}
 use Rattle.rules.specs.declared.span.Span.{Span}
 use Rattle.rules.specs.declared.violation.Violation.{Violation}
 use Rattle.rules.specs.Words.{items}
@@ -13,22 +10,22 @@ use Rattle.rules.specs.Context.{ValidationContext}
 use Rattle.rules.specs.Grammar.{starts_item}
 use Rattle.rules.specs.Rule.{Found, found_if, rule_row, error, FlagsBitTooHigh}
 use Rattle.rules.specs.Bodies.{flags_scheme, body_items, slots, retired_ordinals, member_violations, items_violations, flags_violations}
-use Rattle.names.specs.View.{view_at, view_of, context_by}
-use Rattle.diagnostic.specs.Push.{State, push_if, push_found}
-use Rattle.diagnostic.proofs.FoundPushes.{found-if}
-use Rattle.types.proofs.Views.{view-cons, view-none}
-use Rattle.annotations.proofs.FoundSteps.{found-step, found-end}
+use Rattle.diagnostic.specs.declared.violations.Violations.{Violations}
+use Rattle.diagnostic.specs.Push.{push_if}
+use Rattle.diagnostic.specs.Violations.{state_of, Adds}
+use Rattle.diagnostic.proofs.Added.{adds_if}
+use Rattle.names.specs.View.{view_at}
 use Rattle.bodies.specs.Bit.{bit_found}
 use Rattle.bodies.proofs.BodyItems.{item-member, no_item}
 
 -- the rule at one record
-pub bit-told :
-    (sheet : List ℕ) (i k n : ℕ) (span : Span) (v : Violation) (s t : State) → k ≡ kind_in (record_bytes sheet i) →
-    n ≡ value_in (record_bytes sheet i) → span ≡ ordinal_span_in (record_bytes sheet i) →
-    v ≡ record { class = FlagsBitTooHigh; severity = error; span = span } → t ≡ push_if (eqb k Kind.Variant && ltb 63 n) v s →
-    t ≡ push_found (bit_found (view_at sheet i)) s
+pub bit_added :
+    (sheet : List ℕ) (i kind value : ℕ) (span : Span) (violation : Violation) (old new : Violations) → kind ≡ kind_in (record_bytes sheet i) →
+    value ≡ value_in (record_bytes sheet i) → span ≡ ordinal_span_in (record_bytes sheet i) →
+    violation ≡ record { class = FlagsBitTooHigh; severity = error; span = span } → new.list.ghost_name ≡ old.list.ghost_name →
+    state_of new ≡ push_if (eqb kind Kind.Variant && ltb 63 value) violation (state_of old) → Adds old new (bit_found (view_at sheet i))
 unfolding view_at rule_row bit_found
-bit-told sheet i k n span v s t kind value read told push = rw (push, told, kind, value, read) (found-if 34 _ _ s)
+bit_added sheet i kind value span violation old new hk hv hs told same h = adds_if 34 _ _ old new same (rw (told, hs, hk, hv) at h)
 
 module _ {N P : Type 0} (ctx : ValidationContext N P) where
   -- of the scheme's rules only the first is there
@@ -56,25 +53,6 @@ module _ {N P : Type 0} (ctx : ValidationContext N P) where
       go true false st bit later = rw (st, items, item-member r st, bit, items_violations, later met names)
       go false v st bit later = rw (st, items, no_item r st, later met names)
 
-  flags-all : (rs : List (Rec N P)) → flags_violations ctx rs ≡ flat_map bit_found rs
+  pub flags_bits : (rs : List (Rec N P)) → flags_violations ctx rs ≡ flat_map bit_found rs
   unfolding flags_violations
-  flags-all rs = items-bits (retired_ordinals (slots (body_items rs))) [] [] rs
-
-  flags-next : (r : Rec N P) (rs : List (Rec N P)) → flags_violations ctx (r ∷ rs) ≡ bit_found r ++ flags_violations ctx rs
-  unfolding flat_map
-  flags-next r rs = flags-all (r ∷ rs) ∙ ap (λ fs. bit_found r ++ fs) (sym (flags-all rs))
-
--- and at the records from i on
-module _ (table sheet : List ℕ) (e : ℕ) where
-  abbrev left : ℕ → List (Found Span)
-  left i = flags_violations (context_by table sheet) (view_of sheet i e)
-
-  pub bit-turn :
-      (i : ℕ) (s t u : State) → push_found (left i) s ≡ u → i < e → t ≡ push_found (bit_found (view_at sheet i)) s → push_found (left (i + 1)) t ≡ u
-  bit-turn i s t u before h told =
-      let split : left i ≡ bit_found (view_at sheet i) ++ left (i + 1) = rw (view-cons sheet i e h) (flags-next _ _ _) in
-      found-step (left i) (bit_found (view_at sheet i)) (left (i + 1)) s t u split told before
-
-  pub bits-end : (i : ℕ) (s u : State) → push_found (left i) s ≡ u → e ≤ i → s ≡ u
-  unfolding flat_map
-  bits-end i s u before h = found-end (left i) s u (rw (view-none sheet i e h) (flags-all _ [])) before
+  flags_bits rs = items-bits (retired_ordinals (slots (body_items rs))) [] [] rs

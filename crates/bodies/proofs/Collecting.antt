@@ -83,13 +83,13 @@ module _ (sheet : List ℕ) (a e kind : ℕ) (numbers marks : List ℕ) where
       c.6,
     )
 
-    pub collected-next :
-        (v n p : ℕ) → e ≤ 1024 → k ≡ kind → v ≡ value_in (record_bytes sheet (i - 1)) → v ≤ 4294967295 → n ≡ v → p ≡ n % 1021 →
-        Collected sheet a e kind (set numbers len n) (set marks p 1) (len + 1) (i - 1)
-    collected-next v n p small same hv thin hn hp =
+    collected-next :
+        (v n : ℕ) → e ≤ 1024 → k ≡ kind → v ≡ value_in (record_bytes sheet (i - 1)) → v ≤ 4294967295 → n ≡ v →
+        Collected sheet a e kind (set numbers len n) (set marks (n % 1021) 1) (len + 1) (i - 1)
+    collected-next v n small same hv thin hn =
         let room : len < length numbers = omega (arith, c.0, c.3, c.4) in (
           length-set numbers len n ∙ c.0,
-          length-set marks p 1 ∙ c.1,
+          length-set marks (n % 1021) 1 ∙ c.1,
           omega arith,
           omega (arith, c.3, c.4),
           omega (arith, c.4),
@@ -97,12 +97,13 @@ module _ (sheet : List ℕ) (a e kind : ℕ) (numbers marks : List ℕ) where
               ∙ ap (λ xs. n ∷ xs) c.5
               ∙ sym (narrow-kept n (values_of kind (view_of sheet i e)) (omega arith))
               ∙ ap narrow (values-more n same (hn ∙ hv)),
-          rw hp (marked-store numbers marks len n room c.1 c.6),
+          marked-store numbers marks len n room c.1 c.6,
         )
 
-    -- there is room for one more
-    pub collected-room : e ≤ 1024 → len < 1024
-    collected-room small = omega (arith, c.3, c.4)
+    pub collected-kept :
+        (numbers' marks' : List ℕ) (v n len' : ℕ) → e ≤ 1024 → k ≡ kind → v ≡ value_in (record_bytes sheet (i - 1)) → v ≤ 4294967295 → n ≡ v →
+        numbers' ≡ set numbers len n → marks' ≡ set marks (n % 1021) 1 → len' ≡ len + 1 → Collected sheet a e kind numbers' marks' len' (i - 1)
+    collected-kept numbers' marks' v n len' small same hv thin hn hns hms hl = rw (hns, hms, hl) (collected-next v n small same hv thin hn)
 
   pub collected-all :
       (len i : ℕ) → Collected sheet a e kind numbers marks len i → i ≤ a →

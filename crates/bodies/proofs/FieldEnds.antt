@@ -15,10 +15,10 @@ use Rattle.rules.specs.Grammar.{starts_field_item}
 use Rattle.rules.specs.Bodies.{in_annotations, in_type}
 use Rattle.names.specs.View.{view_at}
 use Rattle.types.proofs.OwnKinds.{within-true, below, above}
-use Rattle.bodies.specs.declared.field.Parts.{Parts}
-use Rattle.bodies.specs.declared.runs.Run.TheVariants.{Optionals, Types, BitNames, FieldItem}
-use Rattle.bodies.specs.Runs.{in_run, AllIn, OptionalsTo, PartsAt, Bare}
-use Rattle.bodies.proofs.RunEnds.{outside, RunTo, ends-out, Passed, none_passed, passed-next, passed_to, passed-out, run_on}
+use Rattle.bodies.specs.declared.field.FieldParts.{FieldParts}
+use Rattle.bodies.specs.Runs.{in_field, AllIn, RunTo}
+use Rattle.bodies.specs.Parts.{OptionalsTo, PartsAt, Bare}
+use Rattle.bodies.proofs.RunEnds.{outside, ends-out, Passed, none_passed, passed-next, passed_to, passed-out, run_on}
 
 -- records that pass one test pass another that asks no more, and two runs on end are one
 module _ (p : Rec ℕ Span → Bool) (sheet : List ℕ) (a : ℕ) where
@@ -37,57 +37,30 @@ module _ (p : Rec ℕ Span → Bool) (sheet : List ℕ) (a : ℕ) where
 type-in : (t : Rec ℕ Span) → Kind.is_type t.kind ≡ true → in_type t ≡ true
 type-in t h = rw (h, or-true)
 
-bit_in : (t : Rec ℕ Span) → is Kind.BitName t ≡ true → in_type t ≡ true
-bit_in t h = rw h
-
--- the types and the bit names behind them are of the type, and where there is none of these the type ends
-module _ (sheet : List ℕ) (a e i names end : ℕ) (passed : Passed in_type sheet a e i) (h : i < e) (types : RunTo (in_run Types) sheet i e names) (bits : RunTo (in_run BitNames) sheet names e end) where
-  least : names ≤ end
-  least = bits.2 types.1
-
-  pub type-next : Passed in_type sheet a e end
-  type-next =
-      passed_to in_type sheet a e names end
-      (passed_to in_type sheet a e i names passed (types.2 (omega arith)) types.1 (all_in in_type sheet i (in_run Types) names type-in types.3))
-      least bits.1
-      (all_in in_type sheet names (in_run BitNames) end bit_in bits.3)
-
-  pub type-less : (end ≡ names → ⊥) → i < end
-  type-less some = omega (arith, types.2 (omega arith), least)
-
-  pub type-over : end ≡ names → RunTo in_type sheet a e end
-  type-over none = passed-out in_type sheet a e end type-next bits.1 out
-    where
-      out : end < e → in_type (view_at sheet end) ≡ false
-      out lt =
-          let bit : is Kind.BitName (view_at sheet end) ≡ false = ends-out (in_run BitNames) sheet names e end bits.0 lt in
-          let type : Kind.is_type (view_at sheet names).kind ≡ false = ends-out (in_run Types) sheet i e names types.0 (omega arith) in
-          rw bit (rw (sym none) at type)
-
 optional-in : (t : Rec ℕ Span) → is Kind.Optional t ≡ true → in_type t ≡ true
 optional-in t h = rw (eqb-true t.kind Kind.Optional h)
 
 -- optionals are of the type, and so the type ends where it does from their end on
-module _ (sheet : List ℕ) (a e behind end : ℕ) (h : a ≤ e) (optionals : RunTo (in_run Optionals) sheet a e behind) (type : RunTo in_type sheet behind e end) where
+module _ (sheet : List ℕ) (a e behind end : ℕ) (h : a ≤ e) (optionals : RunTo (is Kind.Optional) sheet a e behind) (type : RunTo in_type sheet behind e end) where
   pub type-behind : RunTo in_type sheet a e end
   type-behind =
-      run_on in_type sheet a e behind end (optionals.2 h) optionals.1 (all_in in_type sheet a (in_run Optionals) behind optional-in optionals.3) type
+      run_on in_type sheet a e behind end (optionals.2 h) optionals.1 (all_in in_type sheet a (is Kind.Optional) behind optional-in optionals.3) type
 
   pub optionals-to : OptionalsTo sheet a end behind
   unfolding OptionalsTo
   optionals-to = (optionals.2 h, type.2 optionals.1, optionals.3)
 
 -- no record of the annotations, and none of the type, starts an item
-behind-items : (t : Rec ℕ Span) → Kind.Annotation ≤ t.kind → in_run FieldItem t ≡ true
+behind-items : (t : Rec ℕ Span) → Kind.Annotation ≤ t.kind → in_field t ≡ true
 behind-items t h = rw (above Kind.Field Kind.Invariant t.kind (omega arith))
 
-annotation-item : (t : Rec ℕ Span) → in_annotations t ≡ true → in_run FieldItem t ≡ true
+annotation-item : (t : Rec ℕ Span) → in_annotations t ≡ true → in_field t ≡ true
 annotation-item t h = behind-items t (within-true Kind.Annotation Kind.Argument t.kind h).0
 
-type-item : (t : Rec ℕ Span) → in_type t ≡ true → in_run FieldItem t ≡ true
+type-item : (t : Rec ℕ Span) → in_type t ≡ true → in_field t ≡ true
 type-item t h = by (is Kind.BitName t) refl h
   where
-    by : (bit : Bool) → is Kind.BitName t ≡ bit → (bit || Kind.is_type t.kind) ≡ true → in_run FieldItem t ≡ true
+    by : (bit : Bool) → is Kind.BitName t ≡ bit → (bit || Kind.is_type t.kind) ≡ true → in_field t ≡ true
     by true name h' = let kind : t.kind ≡ Kind.BitName = eqb-true t.kind Kind.BitName name in behind-items t (omega arith)
     by false name h' =
         let range : (Kind.Primitive ≤ t.kind) × (t.kind ≤ Kind.BitsInline) = within-true Kind.Primitive Kind.BitsInline t.kind h' in
@@ -100,16 +73,16 @@ cut p sheet a e r end h run least most =
     passed-out p sheet a end r (passed_to p sheet a end a r (none_passed p sheet a end) start least run.3) least
     (λ lt. ends-out p sheet a e r run.0 (omega arith))
 
-pub parts-end :
-    (sheet : List ℕ) (a e : ℕ) (parts : Parts) → a ≤ e → RunTo in_annotations sheet a e parts.type_start → RunTo (in_run Optionals) sheet parts.type_start e parts.behind →
-    RunTo in_type sheet parts.behind e parts.type_end → RunTo (in_run FieldItem) sheet parts.type_end e parts.end → RunTo (in_run FieldItem) sheet a e parts.end × PartsAt sheet a parts
+pub parts_end :
+    (sheet : List ℕ) (a ta behind te end e : ℕ) → a ≤ e → RunTo in_annotations sheet a e ta → RunTo (is Kind.Optional) sheet ta e behind →
+    RunTo in_type sheet behind e te → RunTo in_field sheet te e end →
+    RunTo in_field sheet a e end
+    × PartsAt sheet
+    (record { annotations = record { start = a; end = ta }; ty = record { start = ta; end = te }; behind = behind; condition = record { start = te; end = end } })
 unfolding PartsAt
-parts-end sheet a e parts h annotations optionals behind item =
-    let ta : ℕ = parts.type_start in
-    let te : ℕ = parts.type_end in
-    let end : ℕ = parts.end in
-    let p : Rec ℕ Span → Bool = in_run FieldItem in
-    let type = type-behind sheet ta e parts.behind te annotations.1 optionals behind in
+parts_end sheet a ta behind te end e h annotations optionals type₀ item =
+    let p : Rec ℕ Span → Bool = in_field in
+    let type = type-behind sheet ta e behind te annotations.1 optionals type₀ in
     let h₁ : a ≤ ta = annotations.2 h in
     let h₂ : ta ≤ te = type.2 annotations.1 in
     let h₃ : te ≤ end = item.2 type.1 in
@@ -118,11 +91,18 @@ parts-end sheet a e parts h annotations optionals behind item =
     (all-on p sheet ta te end (all_in p sheet ta in_type te type-item type.3) item.3) in (
       passed-out p sheet a e end (passed_to p sheet a e a end (none_passed p sheet a e) (omega arith) item.1 all) item.1 (ends-out p sheet te e end item.0),
       (
+        refl,
+        refl,
         (cut in_annotations sheet a e ta end h annotations (omega arith) item.1).0,
         (cut in_type sheet ta e te end annotations.1 type h₃ item.1).0,
-        optionals-to sheet ta e parts.behind te annotations.1 optionals behind,
+        optionals-to sheet ta e behind te annotations.1 optionals type₀,
       ),
     )
+
+-- the parts of a field whose only part is a type of one record
+abbrev pub bare_parts : ℕ → FieldParts
+bare_parts a =
+    record { annotations = record { start = a; end = a }; ty = record { start = a; end = a + 1 }; behind = a; condition = record { start = a + 1; end = a + 1 } }
 
 -- what the code reads of a field that has one record
 module _ (sheet : List ℕ) (a e k : ℕ) (h : a < e) (read : k ≡ kind_in (record_bytes sheet a)) (out : (ltb k Kind.Primitive || ltb Kind.Named k) ≡ false) where
@@ -144,21 +124,19 @@ module _ (sheet : List ℕ) (a e : ℕ) (bare : Bare sheet a e) where
   unfolding Bare
   bare-fits = bare.0
 
-  pub bare-end :
-      (parts : Parts) → parts ≡ record { type_start = a; behind = a; type_end = a + 1; end = a + 1 } → RunTo (in_run FieldItem) sheet a e parts.end × PartsAt sheet a parts
+  pub bare_end : RunTo in_field sheet a e (a + 1) × PartsAt sheet (bare_parts a)
   unfolding Bare
-  bare-end parts same =
+  bare_end =
       let t = view_at sheet a in
       let range : (Kind.Primitive ≤ t.kind) × (t.kind ≤ Kind.Named) = within-true Kind.Primitive Kind.Named t.kind bare.1 in
       let lt : a < e = bare.0 in
       let type : Kind.is_type t.kind ≡ true = rw (le-leb Kind.Primitive t.kind range.0, le-leb t.kind Kind.BitsInline (omega (arith, range.1))) in
       let here : Passed in_type sheet a e (a + 1) = passed-next in_type sheet a e a (none_passed in_type sheet a e) true lt (sym (type-in t type)) refl in
-      rw same
-      (parts-end sheet a e (record { type_start = a; behind = a; type_end = a + 1; end = a + 1 }) (omega arith)
+      parts_end sheet a a a (a + 1) (a + 1) e (omega arith)
       (passed-out in_annotations sheet a e a (none_passed in_annotations sheet a e) (omega arith) (λ h. above Kind.Annotation Kind.Argument t.kind (omega (arith, range.0))))
-      (passed-out (in_run Optionals) sheet a e a (none_passed (in_run Optionals) sheet a e) (omega arith) (λ h. ne_eqb t.kind Kind.Optional (λ q. omega (arith, range.1))))
+      (passed-out (is Kind.Optional) sheet a e a (none_passed (is Kind.Optional) sheet a e) (omega arith) (λ h. ne_eqb t.kind Kind.Optional (λ q. omega (arith, range.1))))
       (passed-out in_type sheet a e (a + 1) here (omega arith) (λ h. out (bare.2 h)))
-      (passed-out (in_run FieldItem) sheet (a + 1) e (a + 1) (none_passed (in_run FieldItem) sheet (a + 1) e) (omega arith) (λ h. rw (bare.2 h))))
+      (passed-out in_field sheet (a + 1) e (a + 1) (none_passed in_field sheet (a + 1) e) (omega arith) (λ h. rw (bare.2 h)))
     where
       out : starts_field_item (view_at sheet (a + 1)) ≡ true → in_type (view_at sheet (a + 1)) ≡ false
       out starts =

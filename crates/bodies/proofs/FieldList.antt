@@ -1,41 +1,39 @@
 -- A whole field list: what is known before each record, and what is still to add.
-use Prim.Native.Nat.{ℕ, zero, suc, ◌+◌, ◌-◌, ◌≤◌, ◌<◌}
-use native.Mathlib.Omega.{arith}
-use mathlib.Core.Path.{◌≡◌, refl, sym, ap, ap₂, ◌∙◌}
-use mathlib.Core.Bool.{Bool, true, false, not, ◌&&◌}
-use mathlib.Core.List.{List, []}
-use lib.ListN.{length}
+use Rattle.std.proofs.Common.{◌≡◌, ℕ, zero, suc, ◌+◌, ◌-◌, ◌≤◌, ◌<◌, Bool, true, false, not, ◌&&◌, List, [], refl, sym, ap, ◌∙◌, arith}
+use mathlib.Core.Path.{ap₂}
 use borrow.Author.Tests.{not-true}
+use Rattle.rules.specs.declared.span.Span.{Span}
 use Rattle.rules.specs.Words.{any_of, member, items}
 use Rattle.rules.specs.Kind
 use Rattle.rules.specs.Record.{is, kind_in, value_in, record_bytes}
 use Rattle.rules.specs.Grammar.{starts_field_item}
-use Rattle.rules.specs.Rule.{found_if}
+use Rattle.rules.specs.Rule.{Found, found_if}
 use Rattle.rules.specs.Bodies.{field_scheme, items_violations, field_item_violations, field_list_violations}
+use Rattle.names.specs.Known.{table_of, context_in}
 use Rattle.names.specs.View.{view_at, view_of, entry_of, id_part, context_by}
-use Rattle.diagnostic.specs.Push.{State, push_found}
-use Rattle.diagnostic.proofs.FoundPushes.{found_none}
-use Rattle.annotations.specs.Slots.{has_key, Slotted, Ready}
-use Rattle.annotations.proofs.Slots.{slotted-none, slotted-other, slotted-ready}
-use Rattle.annotations.proofs.FoundSteps.{found-step}
+use Rattle.diagnostic.specs.declared.violations.Violations.{Violations}
+use Rattle.diagnostic.specs.Push.{push_found}
+use Rattle.diagnostic.specs.Violations.{state_of, Adds}
+use Rattle.annotations.specs.Slots.{has_key}
+use Rattle.annotations.specs.Met.{Row, of_kind, is_met}
+use Rattle.conditions.proofs.Remaining.{Remains, remains_rest, remains_none}
+use Rattle.bodies.specs.declared.whole.WholeRecords.{WholeRecords}
 use Rattle.bodies.specs.declared.seen.Seen.{Seen}
+use Rattle.bodies.specs.declared.seen.ItemList.{ItemList}
 use Rattle.bodies.specs.declared.seen.Meeting.{Meeting}
-use Rattle.bodies.specs.Seen.{latest, narrow, Marked, Known, MetAt}
-use Rattle.bodies.specs.Earlier.{values_of, earlier, values_before}
-use Rattle.bodies.specs.Met.{of_kind}
-use Rattle.bodies.specs.declared.runs.Run.TheVariants.{FieldItem}
-use Rattle.bodies.specs.Runs.{in_run, EndsAt, AllIn}
+use Rattle.bodies.specs.Seen.{Known}
+use Rattle.bodies.specs.Met.{sheet_of, tombstoned_in, met_before, KnownBefore}
+use Rattle.bodies.specs.Earlier.{earlier, values_before}
+use Rattle.bodies.specs.FieldNames.{AreOfFields}
+use Rattle.bodies.specs.Runs.{in_field, AllIn, RunTo}
 use Rattle.bodies.specs.Items.{field_found}
-use Rattle.bodies.proofs.Passing.{gone, known_start, known-other}
+use Rattle.bodies.proofs.Passing.{gone, known-other}
 use Rattle.bodies.proofs.Turns.{names_of, kind-is, kind-not, turn-none}
 use Rattle.bodies.proofs.Retired.{retired-fields}
 use Rattle.bodies.proofs.FieldTurns.{fields_left, field-not, field-inner, field-other, field-turn}
 
-module _ (table sheet : List ℕ) (a e : ℕ) where
-  abbrev tombs : List ℕ
-  tombs = gone 11 12 sheet a e
-
-  -- the names in the chains are those of the fields
+module _ (table sheet : List ℕ) (a : ℕ) where
+  -- the names met are those of the fields before
   has-names :
       (i n : ℕ) →
       has_key (of_kind 11 sheet) (entry_of id_part table) a (entry_of id_part table i) n ≡ any_of ((context_by table sheet).same i) (names_of (earlier 11 sheet a n))
@@ -51,123 +49,135 @@ module _ (table sheet : List ℕ) (a e : ℕ) where
       go ih true t = rw (t, ih)
       go ih false t = rw (t, ih)
 
-  -- before record i of the list
-  abbrev pub FieldsKnown : ℕ → Seen → List ℕ → List ℕ → State → State → ℕ → Type 0
-  FieldsKnown tombstones seen marks names s₀ s i =
-      (length s.0 ≡ length s₀.0)
-      × (i ≤ e)
-      × Known 11 12 sheet a e tombstones seen.ordinals marks seen.len i
-      × Slotted (of_kind 11 sheet) (entry_of id_part table) a names i
-      × (push_found (fields_left table sheet a e tombs i) s ≡ push_found (field_list_violations (context_by table sheet) (view_of sheet a e)) s₀)
-
-  pub fields-start : fields_left table sheet a e tombs a ≡ field_list_violations (context_by table sheet) (view_of sheet a e)
+  pub fields-start :
+      (e : ℕ) → fields_left table sheet a e (gone 11 12 sheet a e) a ≡ field_list_violations (context_by table sheet) (view_of sheet a e)
   unfolding fields_left field_list_violations earlier
-  fields-start =
+  fields-start e =
       let none : a - a ≡ 0 = omega arith in
       rw none
       (ap (λ xs. items_violations (context_by table sheet) field_scheme (field_item_violations (context_by table sheet)) xs [] [] (items starts_field_item (view_of sheet a e)))
       (sym (retired-fields (view_of sheet a e))))
 
-  -- the start of the list
-  pub fields-none :
-      (tombstones : ℕ) (ordinals marks names : List ℕ) (s : State) → a ≤ e → e ≤ 1024 → Ready names a →
-      (length ordinals ≡ 1024)
-      × (length marks ≡ 1021)
-      × (tombstones ≤ e - a)
-      × (latest ordinals 0 tombstones ≡ narrow (values_of 12 (view_of sheet a e)))
-      × Marked ordinals marks tombstones →
-      FieldsKnown tombstones (record { ordinals = ordinals; len = tombstones }) marks names s s a
-  fields-none tombstones ordinals marks names s le small r c = (
-    refl,
-    le,
-    known_start 11 12 sheet a e ordinals marks tombstones (λ f. absurd (omega (arith, f))) small c.0 c.1 c.3 c.4,
-    slotted-none (of_kind 11 sheet) (entry_of id_part table) a names r,
-    ap (λ fs. push_found fs s) fields-start,
-  )
+module _ (fields : WholeRecords) where
+  abbrev table : List ℕ
+  table = table_of fields.context
 
-  module _ (tombstones : ℕ) (seen : Seen) (marks names : List ℕ) (s₀ s : State) (i : ℕ) where
+  abbrev sheet : List ℕ
+  sheet = fields.context.sheet.now
+
+  abbrev a : ℕ
+  a = fields.range.start
+
+  abbrev e : ℕ
+  e = fields.range.end
+
+  abbrev tombs : List ℕ
+  tombs = gone 11 12 sheet a e
+
+  abbrev still : ℕ → List (Found Span)
+  still i = fields_left table sheet a e tombs i
+
+  -- the list of the fields, and their names
+  abbrev pub fields_of : ItemList
+  fields_of = record { records = fields; item = Kind.Field; tombstone = Kind.FieldTombstone }
+
+  abbrev pub names_in : Row
+  names_in = record { sheet = sheet; table = table; kind = Kind.Field; start = a }
+
+  -- before record i of the list
+  pub record FieldsKnown (seen : Seen) (names : Row) (old now : Violations) (i : ℕ) : Type 0 where
+    pub list : seen.list ≡ fields_of
+    pub named : names ≡ names_in
+    pub most : i ≤ e
+    pub known : Known 11 12 sheet a e seen.tombstones seen.ordinals seen.marks seen.len i
+    pub found : Remains old now (field_list_violations (context_in fields.context) (view_of sheet a e)) (still i)
+
+  -- the start of the list
+  pub fields_none :
+      (seen : Seen) (before names : Row) (vs : Violations) → AreOfFields fields.context before → names ≡ record before { start = a } → seen.list ≡ fields_of →
+      KnownBefore seen a → FieldsKnown seen names vs vs a
+  fields_none seen before names vs of named list known = record {
+    list = list;
+    named = named ∙ (λ i. record { sheet = of.0 i; table = of.1 i; kind = of.2 i; start = a });
+    most = fields.ordered;
+    known = rw list at known;
+    found = record { reference = refl; state = ap (λ fs. push_found fs (state_of vs)) (fields-start table sheet a e) };
+  }
+
+  module _ (seen : Seen) (names : Row) (old now : Violations) where
     -- a record that is no field
-    pub fields-other :
-        (t : State) (k : ℕ) → FieldsKnown tombstones seen marks names s₀ s i → i < e → k ≡ kind_in (record_bytes sheet i) →
-        (k ≡ 11 → ⊥) → length t.0 ≡ length s.0 →
-        t ≡ push_found (found_if 1 (is Kind.Invariant (view_at sheet i)) (view_at sheet i).place) s →
-        FieldsKnown tombstones seen marks names s₀ t (i + 1)
-    fields-other t k known h hk ne size ht =
-        let test : is Kind.Field (view_at sheet i) ≡ false = kind-not sheet i k 11 hk ne in (
-          size ∙ known.0,
-          omega arith,
-          known-other 11 12 sheet a e tombstones seen.ordinals marks seen.len i known.2 h test,
-          slotted-other (of_kind 11 sheet) (entry_of id_part table) a names i test known.3,
-          found-step _ _ _ s t _ (field-other table sheet a e tombs i known.2.2 h test) ht known.4,
-        )
+    pub fields_other :
+        (now' : Violations) (i kind : ℕ) → FieldsKnown seen names old now i → i < e → kind ≡ kind_in (record_bytes sheet i) → (kind ≡ 11 → ⊥) →
+        Adds now now' (found_if 1 (is Kind.Invariant (view_at sheet i)) (view_at sheet i).place) → FieldsKnown seen names old now' (i + 1)
+    fields_other now' i kind k h hk ne adds =
+        let test : is Kind.Field (view_at sheet i) ≡ false = kind-not sheet i kind 11 hk ne in
+        record {
+          list = k.list;
+          named = k.named;
+          most = omega arith;
+          known = known-other 11 12 sheet a e seen.tombstones seen.ordinals seen.marks seen.len i k.known h test;
+          found = remains_rest old _ now now' _ _ (rw (field-other table sheet a e tombs i k.known.2 h test) at k.found) adds;
+        }
 
     -- a record of a field's parts
-    fields-inner :
-        FieldsKnown tombstones seen marks names s₀ s i → i < e → starts_field_item (view_at sheet i) ≡ false →
-        FieldsKnown tombstones seen marks names s₀ s (i + 1)
-    fields-inner known h st =
-        let test : is Kind.Field (view_at sheet i) ≡ false = field-not (view_at sheet i) st in (
-          known.0,
-          omega arith,
-          known-other 11 12 sheet a e tombstones seen.ordinals marks seen.len i known.2 h test,
-          slotted-other (of_kind 11 sheet) (entry_of id_part table) a names i test known.3,
-          ap (λ fs. push_found fs s) (sym (field-inner table sheet a e tombs i known.2.2 h st)) ∙ known.4,
-        )
+    fields-inner : (i : ℕ) → FieldsKnown seen names old now i → i < e → starts_field_item (view_at sheet i) ≡ false → FieldsKnown seen names old now (i + 1)
+    fields-inner i k h st = record {
+      list = k.list;
+      named = k.named;
+      most = omega arith;
+      known = known-other 11 12 sheet a e seen.tombstones seen.ordinals seen.marks seen.len i k.known h (field-not (view_at sheet i) st);
+      found = rw (field-inner table sheet a e tombs i k.known.2 h st) at k.found;
+    }
 
-  -- all of a field's parts
-  fields-parts :
-      (tombstones : ℕ) (seen : Seen) (marks names : List ℕ) (s₀ s : State) (i n : ℕ) → FieldsKnown tombstones seen marks names s₀ s i →
-      i + n ≤ e → AllIn (in_run FieldItem) sheet i (i + n) → FieldsKnown tombstones seen marks names s₀ s (i + n)
-  unfolding AllIn
-  fields-parts tombstones seen marks names s₀ s i zero known h all = let none : i + 0 ≡ i = omega arith in rw none known
-  fields-parts tombstones seen marks names s₀ s i (suc n) known h all =
-      let more : i + suc n ≡ i + n + 1 = omega arith in
-      rw more
-      (fields-inner tombstones seen marks names s₀ s (i + n)
-      (fields-parts tombstones seen marks names s₀ s i n known (omega arith) (λ j l lt. all j l (omega arith))) (omega arith)
-      (not-true (starts_field_item (view_at sheet (i + n))) (all (i + n) (omega arith) (omega arith))))
+    -- all of a field's parts
+    fields-parts : (i n : ℕ) → FieldsKnown seen names old now i → i + n ≤ e → AllIn in_field sheet i (i + n) → FieldsKnown seen names old now (i + n)
+    unfolding AllIn
+    fields-parts i zero k h all = let none : i + 0 ≡ i = omega arith in rw none k
+    fields-parts i (suc n) k h all =
+        let more : i + suc n ≡ i + n + 1 = omega arith in
+        rw more
+        (fields-inner (i + n) (fields-parts i n k (omega arith) (λ j l lt. all j l (omega arith))) (omega arith)
+        (not-true (starts_field_item (view_at sheet (i + n))) (all (i + n) (omega arith) (omega arith))))
+
+    fields_to : (i end : ℕ) → FieldsKnown seen names old now i → i ≤ end → end ≤ e → AllIn in_field sheet i end → FieldsKnown seen names old now end
+    fields_to i end k le h all =
+        let last : i + (end - i) ≡ end = omega arith in
+        rw last at (fields-parts i (end - i) k (omega arith) (rw (sym last) at all))
+
+    -- the end of the list
+    pub fields_end : (i : ℕ) → FieldsKnown seen names old now i → e ≤ i → Adds old now (field_list_violations (context_in fields.context) (view_of sheet a e))
+    unfolding fields_left
+    fields_end i k h =
+        remains_none old _ now
+        (rw (turn-none (context_in fields.context) field_scheme (field_item_violations (context_in fields.context)) starts_field_item 11 sheet a e tombs i h) at k.found)
 
   -- a field
-  pub fields-field :
-      (tombstones : ℕ) (seen : Seen) (marks names ordinals' marks' names' : List ℕ) (s₀ s t : State) (i k ordinal end : ℕ) (m : Meeting) (renamed : Bool) →
-      FieldsKnown tombstones seen marks names s₀ s i → i < e → k ≡ kind_in (record_bytes sheet i) → k ≡ 11 →
-      ordinal ≡ value_in (record_bytes sheet i) → MetAt 11 12 sheet a e tombstones ordinals' marks' i ordinal m →
-      (renamed ≡ has_key (of_kind 11 sheet) (entry_of id_part table) a (entry_of id_part table i) (i - a))
-      × Slotted (of_kind 11 sheet) (entry_of id_part table) a names' (i + 1) →
-      EndsAt (in_run FieldItem) sheet (i + 1) e end × (end ≤ e) × (i + 1 ≤ e → i + 1 ≤ end) × AllIn (in_run FieldItem) sheet (i + 1) end →
-      length t.0 ≡ length s.0 → t ≡ push_found (field_found table sheet i end m.tombstoned m.met renamed) s →
-      FieldsKnown tombstones (record { ordinals = ordinals'; len = m.len }) marks' names' s₀ t end
-  unfolding view_at
-  fields-field tombstones seen marks names ordinals' marks' names' s₀ s t i k ordinal end m renamed known h hk eq ho hm hr ends size hs =
-      let test : is Kind.Field (view_at sheet i) ≡ true = kind-is sheet i k 11 hk eq in
-      let behind : i + 1 ≤ end = ends.2 (omega arith) in
-      let last : i + 1 + (end - (i + 1)) ≡ end = omega arith in
-      let more : Seen = record { ordinals = ordinals'; len = m.len } in
-      let dead : m.tombstoned ≡ member (value_in (record_bytes sheet i)) tombs = hm.0 ∙ ap (λ v. member v tombs) ho in
-      let met-here : m.met ≡ member (value_in (record_bytes sheet i)) (values_before 11 sheet a i) = hm.1 ∙ ap (λ v. member v (values_before 11 sheet a i)) ho in
-      let next : FieldsKnown tombstones more marks' names' s₀ t (i + 1) = (
-        size ∙ known.0,
-        omega arith,
-        hm.2,
-        hr.1,
-        found-step _ _ _ s t _
-            (field-turn table sheet a e tombs i end m.tombstoned m.met renamed known.2.2 h test ends.0
-            dead (ap₂ (λ g m. not g && m) dead met-here)
-            (hr.0 ∙ has-names i (i - a)))
-            hs known.4,
-      ) in
-      rw last at
-      (fields-parts tombstones more marks' names' s₀ t (i + 1) (end - (i + 1)) next (omega (arith, ends.1)) (rw (sym last) at ends.3))
+  module _ (seen : Seen) (names : Row) (old now : Violations) (i kind ordinal : ℕ) (k : FieldsKnown seen names old now i) (h : i < e) (hk : kind ≡ kind_in (record_bytes sheet i)) (eq : kind ≡ 11) where
+    test : is Kind.Field (view_at sheet i) ≡ true
+    test = kind-is sheet i kind 11 hk eq
 
-  -- the end of the list
-  pub fields-end :
-      (tombstones : ℕ) (seen : Seen) (marks names : List ℕ) (s₀ s : State) (i : ℕ) → FieldsKnown tombstones seen marks names s₀ s i → e ≤ i →
-      (s ≡ push_found (field_list_violations (context_by table sheet) (view_of sheet a e)) s₀) × Ready names e
-  unfolding fields_left
-  fields-end tombstones seen marks names s₀ s i known h = (
-    sym (found_none s)
-        ∙ ap (λ fs. push_found fs s)
-        (sym (turn-none (context_by table sheet) field_scheme (field_item_violations (context_by table sheet)) starts_field_item 11 sheet a e tombs i h))
-        ∙ known.4,
-    slotted-ready (of_kind 11 sheet) (entry_of id_part table) a names i e known.3 known.1,
-  )
+    pub meets_field : is seen.list.item (view_at (sheet_of seen.list) i) ≡ true
+    meets_field = rw k.list test
+
+    pub fields_field :
+        (seen' : Seen) (names' : Row) (now' : Violations) (m : Meeting) (renamed : Bool) (end : ℕ) → ordinal ≡ value_in (record_bytes sheet i) →
+        seen'.list ≡ seen.list → m.tombstoned ≡ tombstoned_in seen.list ordinal → m.met ≡ met_before seen.list i ordinal → KnownBefore seen' (i + 1) →
+        (names' ≡ names) × (renamed ≡ is_met names i) → RunTo in_field sheet (i + 1) e end →
+        Adds now now' (field_found table sheet i end m.tombstoned m.met renamed) → FieldsKnown seen' names' old now' end
+    unfolding view_at
+    fields_field seen' names' now' m renamed end ho same ht hm known' again ends adds =
+        let whole : seen'.list ≡ fields_of = same ∙ k.list in
+        let dead : m.tombstoned ≡ member (value_in (record_bytes sheet i)) tombs = rw (k.list, ho) at ht in
+        let met : m.met ≡ member (value_in (record_bytes sheet i)) (values_before 11 sheet a i) = rw (k.list, ho) at hm in
+        let named : renamed ≡ is_met names_in i = rw k.named at again.1 in
+        let next : FieldsKnown seen' names' old now' (i + 1) = record {
+          list = whole;
+          named = again.0 ∙ k.named;
+          most = omega arith;
+          known = rw whole at known';
+          found =
+              remains_rest old _ now now' _ _
+              (rw (field-turn table sheet a e tombs i end m.tombstoned m.met renamed k.known.2 h test ends.0 dead (ap₂ (λ g m. not g && m) dead met) (named ∙ has-names table sheet a i (i - a))) at k.found)
+              adds;
+        } in
+        fields_to seen' names' old now' (i + 1) end next (ends.2 (omega arith)) ends.1 ends.3

@@ -11,24 +11,26 @@ use Rattle.rules.specs.Types.{type_violations}
 use Rattle.rules.specs.Annotations.{combined_violations, duplicate_annotations, annotations_violations}
 use Rattle.rules.specs.Conditions.{condition_violations}
 use Rattle.rules.specs.Bodies.{field_violations}
-use Rattle.names.specs.View.{view_at, view_of, context_by}
+use Rattle.names.specs.View.{view_at, view_of}
 use Rattle.types.proofs.Views.{view-cons, view-none}
 use Rattle.types.proofs.Walk.{optional-type}
 use Rattle.conditions.proofs.WholeCondition.{optional-condition}
-use Rattle.diagnostic.specs.Push.{State, push_found}
-use Rattle.diagnostic.proofs.FoundPushes.{found_none, found-then}
-use Rattle.bodies.specs.declared.field.Parts.{Parts}
-use Rattle.bodies.specs.Runs.{EndsAt, AllIn, OptionalsTo, PartsAt}
+use Rattle.diagnostic.specs.declared.violations.Violations.{Violations}
+use Rattle.diagnostic.specs.Violations.{Adds}
+use Rattle.diagnostic.proofs.Added.{adds_none, adds_then}
+use Rattle.bodies.specs.declared.field.FieldParts.{FieldParts}
+use Rattle.bodies.specs.Runs.{EndsAt, AllIn}
+use Rattle.bodies.specs.Parts.{OptionalsTo, PartsAt}
 
 -- where there are no annotations nothing is found, and where there is no condition
-module _ (table sheet : List ℕ) (ta te a e : ℕ) (s : State) (none : e ≤ a) where
-  pub no-annotations : s ≡ push_found (annotations_violations (context_by table sheet) (view_of sheet ta te) (view_of sheet a e)) s
+module _ (ctx : ValidationContext ℕ Span) (ty : List (Rec ℕ Span)) (sheet : List ℕ) (a e : ℕ) (old : Violations) (none : e ≤ a) where
+  pub annotations_none : Adds old old (annotations_violations ctx ty (view_of sheet a e))
   unfolding annotations_violations combined_violations duplicate_annotations flat_map items any_of
-  no-annotations = rw (view-none sheet a e none) (sym (found_none s))
+  annotations_none = rw (view-none sheet a e none) (adds_none old)
 
-  pub no-condition : s ≡ push_found (condition_violations (context_by table sheet) (view_of sheet ta te) (view_of sheet a e)) s
+  pub condition_none : Adds old old (condition_violations ctx ty (view_of sheet a e))
   unfolding condition_violations
-  no-condition = rw (view-none sheet a e none) (sym (found_none s))
+  condition_none = rw (view-none sheet a e none) (adds_none old)
 
 -- what no record of a part changes is the same behind the part
 by-records : {A : Type 0} (f : List (Rec ℕ Span) → A) (sheet : List ℕ) (e n a : ℕ) →
@@ -62,24 +64,24 @@ module _ (ctx : ValidationContext ℕ Span) (sheet : List ℕ) (a e behind : ℕ
           rw (view-cons sheet j e (omega (arith, optionals.1)), second)
           (sym (optional-condition ctx (view_at sheet j) (view_at sheet (j + 1)) (view_of sheet (j + 1 + 1) e) (optionals.2 j l (omega arith)) (optionals.2 (j + 1) (omega arith) (omega arith)) cs))
 
-pub condition-found :
-    (table sheet : List ℕ) (ta behind te last e : ℕ) (s t : State) → OptionalsTo sheet ta te behind → (ta ≤ last) × (ta < last → last + 1 ≡ behind) →
-    t ≡ push_found (condition_violations (context_by table sheet) (view_of sheet last te) (view_of sheet te e)) s →
-    t ≡ push_found (condition_violations (context_by table sheet) (view_of sheet ta te) (view_of sheet te e)) s
-condition-found table sheet ta behind te last e s t optionals h push =
-    rw (condition-behind (context_by table sheet) sheet ta te behind optionals (view_of sheet te e) last h) at push
+pub condition_added :
+    (ctx : ValidationContext ℕ Span) (sheet : List ℕ) (ta behind te last : ℕ) (cs : List (Rec ℕ Span)) (old new : Violations) → OptionalsTo sheet ta te behind →
+    (ta ≤ last) × (ta < last → last + 1 ≡ behind) → Adds old new (condition_violations ctx (view_of sheet last te) cs) →
+    Adds old new (condition_violations ctx (view_of sheet ta te) cs)
+condition_added ctx sheet ta behind te last cs old new optionals h added = rw (condition-behind ctx sheet ta te behind optionals cs last h) at added
 
-pub field-optionals : (sheet : List ℕ) (a : ℕ) (parts : Parts) → PartsAt sheet a parts → OptionalsTo sheet parts.type_start parts.type_end parts.behind
-unfolding PartsAt
-field-optionals sheet a parts at = at.2
+module _ (ctx : ValidationContext ℕ Span) (sheet : List ℕ) (parts : FieldParts) (at : PartsAt sheet parts) where
+  pub parts_optionals : OptionalsTo sheet parts.ty.start parts.ty.end parts.behind
+  unfolding PartsAt
+  parts_optionals = at.4
 
-pub field_found :
-    (table sheet : List ℕ) (a : ℕ) (parts : Parts) (s t u v : State) → PartsAt sheet a parts →
-    t ≡ push_found (type_violations (context_by table sheet) (view_of sheet parts.behind parts.type_end)) s →
-    u ≡ push_found (annotations_violations (context_by table sheet) (view_of sheet parts.type_start parts.type_end) (view_of sheet a parts.type_start)) t →
-    v ≡ push_found (condition_violations (context_by table sheet) (view_of sheet parts.type_start parts.type_end) (view_of sheet parts.type_end parts.end)) u →
-    v ≡ push_found (field_violations (context_by table sheet) (view_of sheet a parts.end)) s
-unfolding PartsAt EndsAt field_violations
-field_found table sheet a parts s t u v at h₁ h₂ h₃ =
-    let type = type-behind (context_by table sheet) sheet parts.type_start parts.type_end parts.behind at.2 in
-    rw (← at.0.0, ← at.0.1, ← at.1.0, ← at.1.1) (found-then _ _ s u v (found-then _ _ s t u (rw type at h₁) h₂) h₃)
+  pub field_added :
+      (old first second new : Violations) → Adds old first (type_violations ctx (view_of sheet parts.behind parts.ty.end)) →
+      Adds first second (annotations_violations ctx (view_of sheet parts.ty.start parts.ty.end) (view_of sheet parts.annotations.start parts.annotations.end)) →
+      Adds second new (condition_violations ctx (view_of sheet parts.ty.start parts.ty.end) (view_of sheet parts.condition.start parts.condition.end)) →
+      Adds old new (field_violations ctx (view_of sheet parts.annotations.start parts.condition.end))
+  unfolding PartsAt EndsAt field_violations
+  field_added old first second new type annotations condition =
+      let behind = type-behind ctx sheet parts.ty.start parts.ty.end parts.behind at.4 in
+      rw (← at.2.0, ← at.2.1, ← at.3.0, ← at.3.1)
+      (adds_then old second new _ _ (adds_then old first second _ _ (rw behind at type) (rw at.0 at annotations)) (rw at.1 at condition))

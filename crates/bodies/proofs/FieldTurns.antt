@@ -16,10 +16,10 @@ use Rattle.rules.specs.Rule.{Found, found_if}
 use Rattle.rules.specs.Bodies.{Scheme, field_scheme, found_all, is_member, member_violations, field_violations, field_item_violations}
 use Rattle.rules.proofs.Taken.{within-true, outside-is}
 use Rattle.names.specs.View.{view_at, view_of, context_by}
-use Rattle.diagnostic.specs.Push.{State, push_found}
-use Rattle.diagnostic.proofs.FoundPushes.{found-then}
-use Rattle.bodies.specs.declared.runs.Run.TheVariants.{FieldItem}
-use Rattle.bodies.specs.Runs.{in_run, EndsAt}
+use Rattle.diagnostic.specs.declared.violations.Violations.{Violations}
+use Rattle.diagnostic.specs.Violations.{Adds}
+use Rattle.diagnostic.proofs.Added.{adds_then}
+use Rattle.bodies.specs.Runs.{in_field, EndsAt}
 use Rattle.bodies.specs.Ordinal.{member_found}
 use Rattle.bodies.specs.Items.{field_found}
 use Rattle.bodies.proofs.Passing.{values, before}
@@ -93,7 +93,7 @@ module _ (table sheet : List ℕ) (a e : ℕ) (gone : List ℕ) where
 
   -- a field
   pub field-turn :
-      (i end : ℕ) (tombstoned again renamed : Bool) → a ≤ i → i < e → is Kind.Field (at i) ≡ true → EndsAt (in_run FieldItem) sheet (i + 1) e end →
+      (i end : ℕ) (tombstoned again renamed : Bool) → a ≤ i → i < e → is Kind.Field (at i) ≡ true → EndsAt in_field sheet (i + 1) e end →
       tombstoned ≡ member (at i).value gone →
       (not tombstoned && again) ≡ (not (member (at i).value gone) && member (at i).value (values (fields_before i))) →
       renamed ≡ any_of (ctx.same (at i).name) (names_of (fields_before i)) →
@@ -115,9 +115,9 @@ module _ (table sheet : List ℕ) (a e : ℕ) (gone : List ℕ) where
 
 -- the ordinal and the name, and then the parts
 pub item-found :
-    (table sheet : List ℕ) (i end : ℕ) (tombstoned again renamed : Bool) (s t u : State) →
-    t ≡ push_found (member_found field_scheme tombstoned again renamed (view_at sheet i)) s →
-    u ≡ push_found (field_violations (context_by table sheet) (view_of sheet (i + 1) end)) t →
-    u ≡ push_found (field_found table sheet i end tombstoned again renamed) s
+    (table sheet : List ℕ) (i end : ℕ) (tombstoned again renamed : Bool) (old mid now : Violations) →
+    Adds old mid (member_found field_scheme tombstoned again renamed (view_at sheet i)) →
+    Adds mid now (field_violations (context_by table sheet) (view_of sheet (i + 1) end)) →
+    Adds old now (field_found table sheet i end tombstoned again renamed)
 unfolding field_found
-item-found table sheet i end tombstoned again renamed s t u ht hu = found-then _ _ s t u ht hu
+item-found table sheet i end tombstoned again renamed old mid now member parts = adds_then old mid now _ _ member parts

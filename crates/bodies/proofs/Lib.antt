@@ -9,7 +9,7 @@ pub mod FieldEnds
 pub mod FieldList
 pub mod FieldParts
 pub mod FieldTurns
-pub mod Fours
+pub mod Kept
 pub mod Marks
 pub mod Narrow
 pub mod Newtypes

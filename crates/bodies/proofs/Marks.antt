@@ -3,11 +3,15 @@ use Prim.Native.Nat.{ℕ, zero, suc, ◌+◌, ◌-◌, ◌%◌, ◌≤◌, ◌<�
 use native.Mathlib.Decide.{ℕ_discrete}
 use native.Mathlib.Omega.{arith}
 use native.Mathlib.Numerals.{add-one}
-use mathlib.Core.Path.{◌≡◌, refl, sym, ap, ◌∙◌}
-use mathlib.Core.Bool.{Bool, true, false, ◌||◌, or_assoc}
+use mathlib.Core.Path.{◌≡◌, refl, sym, ap, ap₂, ◌∙◌}
+use mathlib.Core.Bool.{Bool, true, false, ◌||◌, or_assoc, or_comm}
 use mathlib.Core.List.{List, ◌∷◌}
-use lib.ListN.{length, get_or, set}
-use lib.Seq.{get_or-set_same, get_or-set_other}
+use lib.ListN.{length, get_or, set, take, drop}
+use lib.Seq.{get_or-set_same, get_or-set_other, take-length, length-take-le}
+use lib.ListN.{length-drop}
+use Rattle.std.proofs.lemmas.List.{get_or-take, get_or-drop}
+use Rattle.std.specs.List.{list_any}
+use Rattle.std.proofs.lemmas.List.Folds.{list_any_more}
 use lib.Dec.{eqb}
 use borrow.Author.Tests.{ne_eqb}
 use Rattle.rules.specs.Words.{any_of, member}
@@ -31,6 +35,9 @@ pub length-latest : (numbers : List ℕ) (a n : ℕ) → length (latest numbers 
 unfolding latest
 length-latest numbers a zero = refl
 length-latest numbers a (suc n) = ap suc (length-latest numbers a n)
+
+eqb-turn : (x y : ℕ) → eqb x y ≡ eqb y x
+eqb-turn x y = grind arith
 
 -- a number is among them, asked in two windows, of which the second ends where they end
 or_turn : (p q b c : Bool) → ((p || q) || (b || c)) ≡ ((q || b) || (p || c))
@@ -98,24 +105,42 @@ module _ (numbers : List ℕ) (x a : ℕ) where
   windows-all e window last i found order h le ge room cover place =
       windows-meet (e - a - window) (window - (e - a - window)) last i (e - a) found h (omega arith) (omega arith) (omega arith)
 
--- asked one by one
-module _ (numbers : List ℕ) (x a : ℕ) where
-  abbrev pub AskedBefore : Bool → ℕ → Type 0
-  AskedBefore found i = (a ≤ i) × (found ≡ member x (latest numbers a (i - a)))
+-- asked by the library
+few-some :
+    (numbers : List ℕ) (x n : ℕ) → n ≤ length numbers → list_any (λ y. eqb y x) (take n numbers) ≡ member x (latest numbers 0 n)
+unfolding latest any_of
+few-some numbers x zero le = refl
+few-some numbers x (suc n) le =
+    let more : suc n ≡ n + 1 = omega arith in
+    let from-none : n ≡ 0 + n = omega arith in
+    ap (λ k. list_any (λ y. eqb y x) (take k numbers)) more
+    ∙ list_any_more (λ y. eqb y x) numbers n 0 (omega arith)
+    ∙ or_comm (list_any (λ y. eqb y x) (take n numbers)) (eqb (get_or numbers n 0) x)
+    ∙ ap₂ ◌||◌ (eqb-turn (get_or numbers n 0) x) (few-some numbers x n (omega arith))
+    ∙ ap (λ k. eqb x (get_or numbers k 0) || member x (latest numbers 0 n)) from-none
 
-  pub before-none : AskedBefore false a
-  unfolding latest any_of
-  before-none = let none : a - a ≡ 0 = omega arith in (omega arith, rw none)
+pub few-all : (numbers : List ℕ) (x : ℕ) (found : Bool) → found ≡ list_any (λ y. eqb y x) numbers → found ≡ member x (latest numbers 0 (length numbers))
+few-all numbers x found h =
+    h ∙ ap (list_any (λ y. eqb y x)) (sym (take-length numbers)) ∙ few-some numbers x (length numbers) (omega arith)
 
-  pub before-next : (i : ℕ) (found : Bool) → AskedBefore found i → AskedBefore (eqb x (get_or numbers i 0) || found) (i + 1)
-  unfolding latest any_of
-  before-next i found asked =
-      let more : i + 1 - a ≡ suc (i - a) = omega arith in
-      let place : a + (i - a) ≡ i = omega arith in
-      (omega arith, rw (more, place, asked.1))
+-- those of a part of the array
+latest-same :
+    (ys xs : List ℕ) (a n : ℕ) → ((i : ℕ) → i < n → get_or ys i 0 ≡ get_or xs (a + i) 0) → latest ys 0 n ≡ latest xs a n
+unfolding latest
+latest-same ys xs a zero same = refl
+latest-same ys xs a (suc n) same =
+    let from-none : 0 + n ≡ n = omega arith in
+    ap₂ ◌∷◌ (rw from-none (same n (omega arith))) (latest-same ys xs a n (λ i h. same i (omega arith)))
 
-  pub before-all : (e i : ℕ) (found : Bool) → AskedBefore found i → i ≤ e → e ≤ i → found ≡ member x (latest numbers a (e - a))
-  before-all e i found asked le ge = let same : e ≡ i = omega arith in rw same asked.1
+pub latest-front : (xs : List ℕ) (n : ℕ) → n ≤ length xs → latest (take n xs) 0 (length (take n xs)) ≡ latest xs 0 n
+latest-front xs n le =
+    ap (latest (take n xs) 0) (length-take-le n xs le)
+    ∙ latest-same (take n xs) xs 0 n (λ i h. let from-none : 0 + i ≡ i = omega arith in rw from-none (get_or-take n xs i 0 h))
+
+pub latest-part : (xs : List ℕ) (a n : ℕ) → a + n ≤ length xs → latest (take n (drop a xs)) 0 (length (take n (drop a xs))) ≡ latest xs a n
+latest-part xs a n le =
+    ap (latest (take n (drop a xs)) 0) (length-take-le n (drop a xs) (omega (arith, length-drop a xs)))
+    ∙ latest-same (take n (drop a xs)) xs a n (λ i h. get_or-take n (drop a xs) i 0 h ∙ get_or-drop a xs i 0)
 
 -- none has its mark yet
 pub marked-none : (numbers marks : List ℕ) → Marked numbers marks 0
@@ -136,8 +161,8 @@ marked-set numbers marks n p room all j h z = go (ℕ_discrete (get_or numbers j
         let one : get_or (set marks p 1) (get_or numbers j 0 % 1021) 0 ≡ 1 = rw same (get_or-set_same marks p 1 0 room) in omega arith
     go (no differ) = all j h (sym (get_or-set_other marks p (get_or numbers j 0 % 1021) 1 0 differ) ∙ z)
 
--- one number more, which has its mark already
-pub marked_more :
+-- one number more, which has its mark
+marked_more :
     (numbers marks : List ℕ) (n v : ℕ) → n < length numbers → (get_or marks (v % 1021) 0 ≡ 0 → ⊥) → Marked numbers marks n → Marked (set numbers n v) marks (n + 1)
 unfolding Marked
 marked_more numbers marks n v room one all j h z = go (ℕ_discrete j n)

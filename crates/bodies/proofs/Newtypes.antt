@@ -1,42 +1,32 @@
 -- Rules 37 and 38: what the name of a newtype's inner type is declared as.
-use Prim.Native.Nat.{ℕ, ◌<◌, ◌≤◌}
-use mathlib.Core.Path.{◌≡◌, sym}
-use mathlib.Core.Bool.{Bool, ◌&&◌}
-use mathlib.Core.List.{List}
-use lib.Dec.{eqb}
+use Rattle.std.proofs.Common.{◌≡◌, ℕ, ◌<◌, ◌≤◌, Bool, ◌&&◌, List, eqb}
 use Rattle.rules.specs.declared.span.Span.{Span}
-use Rattle.rules.specs.declared.violation.Violation.{Violation}
 use Rattle.rules.specs.Kind
 use Rattle.rules.specs.Sub
-use Rattle.rules.specs.Record.{is, record_bytes, kind_in, span_in}
-use Rattle.rules.specs.Context.{declared_as}
+use Rattle.rules.specs.Record.{record_bytes, kind_in, span_in}
+use Rattle.rules.specs.Context.{ValidationContext, declared_as}
 use Rattle.rules.specs.Bodies.{newtype_violations}
-use Rattle.rules.specs.Rule.{Found, found_if, rule_row, error, NewtypeOverNewtype, NewtypeOverConfig}
-use Rattle.names.specs.View.{view_at, view_of, context_by}
-use Rattle.diagnostic.specs.Push.{State, push_if, push_found}
-use Rattle.diagnostic.proofs.FoundPushes.{found-if, found_none, found-then}
+use Rattle.rules.specs.Rule.{rule_row, error, NewtypeOverNewtype, NewtypeOverConfig}
+use Rattle.names.specs.View.{view_at, view_of}
+use Rattle.diagnostic.specs.declared.violations.Violations.{Violations}
+use Rattle.diagnostic.specs.Push.{push_if}
+use Rattle.diagnostic.specs.Violations.{state_of, Adds}
+use Rattle.diagnostic.proofs.Added.{adds_none, adds_then, adds_if}
 use Rattle.types.proofs.Views.{view-cons, view-none}
 
-module _ (table sheet : List ℕ) (a e : ℕ) (s : State) where
-  -- a rule for a name that is declared with a sub
-  abbrev inner : ℕ → ℕ → List (Found Span)
-  inner rule sub =
-      found_if rule (is Kind.Named (view_at sheet a) && declared_as (context_by table sheet) sub (view_at sheet a).name) (view_at sheet a).place
-
-  pub no_inner : e ≤ a → s ≡ push_found (newtype_violations (context_by table sheet) (view_of sheet a e)) s
+module _ (ctx : ValidationContext ℕ Span) (sheet : List ℕ) (a e : ℕ) (old : Violations) where
+  pub newtype_none : e ≤ a → Adds old old (newtype_violations ctx (view_of sheet a e))
   unfolding newtype_violations
-  no_inner h = rw (view-none sheet a e h) (sym (found_none s))
+  newtype_none h = rw (view-none sheet a e h) (adds_none old)
 
-  pub rules-37-38 :
-      (k : ℕ) (span : Span) (newtype config : Bool) (v w : Violation) (t u : State) → a < e → k ≡ kind_in (record_bytes sheet a) →
-      span ≡ span_in (record_bytes sheet a) → newtype ≡ declared_as (context_by table sheet) Sub.Newtype a →
-      config ≡ declared_as (context_by table sheet) Sub.Config a →
-      v ≡ record { class = NewtypeOverNewtype; severity = error; span = span } → t ≡ push_if (eqb k Kind.Named && newtype) v s →
-      w ≡ record { class = NewtypeOverConfig; severity = error; span = span } → u ≡ push_if (eqb k Kind.Named && config) w t →
-      u ≡ push_found (newtype_violations (context_by table sheet) (view_of sheet a e)) s
+  pub newtype_added :
+      (kind : ℕ) (newtype config : Bool) (mid new : Violations) → a < e → kind ≡ kind_in (record_bytes sheet a) →
+      newtype ≡ declared_as ctx Sub.Newtype a → config ≡ declared_as ctx Sub.Config a → mid.list.ghost_name ≡ old.list.ghost_name →
+      state_of mid ≡ push_if (eqb kind Kind.Named && newtype) (record { class = NewtypeOverNewtype; severity = error; span = span_in (record_bytes sheet a) }) (state_of old) →
+      new.list.ghost_name ≡ mid.list.ghost_name →
+      state_of new ≡ push_if (eqb kind Kind.Named && config) (record { class = NewtypeOverConfig; severity = error; span = span_in (record_bytes sheet a) }) (state_of mid) →
+      Adds old new (newtype_violations ctx (view_of sheet a e))
   unfolding view_at rule_row newtype_violations
-  rules-37-38 k span newtype config v w t u h kind read n c told push told' push' =
-      rw (view-cons sheet a e h)
-      (found-then (inner 37 Sub.Newtype) (inner 38 Sub.Config) s t u
-      (rw (push, told, read, n, kind) (found-if 37 _ _ s))
-      (rw (push', told', read, c, kind) (found-if 38 _ _ t)))
+  newtype_added kind newtype config mid new some hk hn hc same h same' h' =
+      rw (view-cons sheet a e some)
+      (adds_then old mid new _ _ (adds_if 37 _ _ old mid same (rw (hk, hn) at h)) (adds_if 38 _ _ mid new same' (rw (hk, hc) at h')))

@@ -6,7 +6,7 @@ use mathlib.Core.List.{List, [], ◌∷◌, flat_map}
 use lib.Dec.{eqb, leb, ltb}
 use borrow.Author.Tests.{leb-true, le-ltb}
 use Rattle.rules.specs.declared.span.Span.{Span}
-use Rattle.rules.specs.declared.violation.Violation.{Violation}
+use Rattle.rules.specs.declared.violation.Violation as Error
 use Rattle.rules.specs.Kind
 use Rattle.rules.specs.Record.{is, record_bytes, kind_in, span_in, ordinal_span_in, value_in}
 use Rattle.rules.specs.Rule.{found_if, violation, rule_row, error}
@@ -14,40 +14,16 @@ use Rattle.rules.specs.Bodies.{Scheme, found_all, field_scheme, enum_scheme, uni
 use Rattle.names.specs.View.{view_at}
 use Rattle.diagnostic.specs.Push.{State, push_if, push_found}
 use Rattle.diagnostic.proofs.FoundPushes.{found-append, found_none, found-if, found-then}
+use Rattle.diagnostic.specs.declared.violations.Violations.{Violations}
+use Rattle.diagnostic.specs.Violations.{state_of, Adds}
+use Rattle.diagnostic.proofs.Added.{adds_none, adds_if}
 use Rattle.bodies.specs.declared.ordinal.OrdinalRules.{OrdinalRules}
 use Rattle.bodies.specs.Ordinal.{at_ordinal, push_ordinal, member_found}
-
--- the error that is made is added
-pub error-pushed : (bad : Bool) (v w : Violation) (s t : State) → v ≡ w → t ≡ push_if bad v s → t ≡ push_if bad w s
-error-pushed bad v w s t hv ht = ht ∙ ap (λ x. push_if bad x s) hv
-
--- the three tests, one after the other
-pub ordinal-pushed :
-    (rules : OrdinalRules) (sheet : List ℕ) (i value : ℕ) (tombstoned met : Bool) (span : Span) (s t u v : State) →
-    span ≡ ordinal_span_in (record_bytes sheet i) → value ≡ value_in (record_bytes sheet i) →
-    t ≡ push_if (ltb rules.greatest value) (record { class = rules.too_large; severity = 0; span = span }) s →
-    u ≡ push_if tombstoned (record { class = rules.reused; severity = 0; span = span }) t →
-    v ≡ push_if (not tombstoned && met) (record { class = rules.duplicate; severity = 0; span = span }) u →
-    v ≡ push_ordinal rules sheet i tombstoned met s
-unfolding push_ordinal
-ordinal-pushed rules sheet i value tombstoned met span s t u v hs hv ht hu hv' = rw (hv', hu, ht, hs, hv)
-
--- no test is against the ordinal
-pub ordinal-fine :
-    (rules : OrdinalRules) (sheet : List ℕ) (i ordinal : ℕ) (tombstoned met : Bool) (s : State) → ordinal ≡ value_in (record_bytes sheet i) →
-    ((not tombstoned && not met) && leb ordinal rules.greatest) ≡ true → s ≡ push_ordinal rules sheet i tombstoned met s
-unfolding push_ordinal push_if
-ordinal-fine rules sheet i ordinal true met s ho h = absurd (true≢false (sym h))
-ordinal-fine rules sheet i ordinal false true s ho h = absurd (true≢false (sym h))
-ordinal-fine rules sheet i ordinal false false s ho h =
-    let under : ltb rules.greatest (value_in (record_bytes sheet i)) ≡ false =
-    ap (ltb rules.greatest) (sym ho) ∙ le-ltb rules.greatest ordinal (leb-true ordinal rules.greatest h) in
-    rw under
 
 -- a class is told of a rule
 abbrev Tells : ℕ → ℕ → Type 0
 Tells class rule =
-    (place : Span) → ◌≡◌ {A = Violation} (record { class = class; severity = error; span = place }) (violation (record { rule = rule; place = place }))
+    (place : Span) → ◌≡◌ {A = Error.Violation} (record { class = class; severity = error; span = place }) (violation (record { rule = rule; place = place }))
 
 one_found : (rule : ℕ) (b : Bool) (place : Span) → found_if rule b place ≡ found_all (rule ∷ []) b place
 unfolding flat_map
@@ -94,56 +70,71 @@ module _ (rules : OrdinalRules) (o t r : ℕ) (over : Tells rules.too_large o) (
 
 -- no rule is against a field's ordinal and name
 pub field-fine :
-    (sheet : List ℕ) (i ordinal : ℕ) (tombstoned met again : Bool) (s : State) → ordinal ≡ value_in (record_bytes sheet i) →
+    (sheet : List ℕ) (i ordinal : ℕ) (tombstoned met again : Bool) (vs : Violations) → ordinal ≡ value_in (record_bytes sheet i) →
     (((not tombstoned && not met) && not again) && leb ordinal 65535) ≡ true →
-    s ≡ push_found (member_found field_scheme tombstoned met again (view_at sheet i)) s
+    Adds vs vs (member_found field_scheme tombstoned met again (view_at sheet i))
 unfolding member_found view_at flat_map
-field-fine sheet i ordinal true met again s ho h = absurd (true≢false (sym h))
-field-fine sheet i ordinal false true again s ho h = absurd (true≢false (sym h))
-field-fine sheet i ordinal false false true s ho h = absurd (true≢false (sym h))
-field-fine sheet i ordinal false false false s ho h =
+field-fine sheet i ordinal true met again vs ho h = absurd (true≢false (sym h))
+field-fine sheet i ordinal false true again vs ho h = absurd (true≢false (sym h))
+field-fine sheet i ordinal false false true vs ho h = absurd (true≢false (sym h))
+field-fine sheet i ordinal false false false vs ho h =
     let under : ltb 65535 (value_in (record_bytes sheet i)) ≡ false = ap (ltb 65535) (sym ho) ∙ le-ltb 65535 ordinal (leb-true ordinal 65535 h) in
-    rw under (sym (found_none s))
+    rw under (adds_none vs)
 
--- the rules of a field's ordinal and name
-pub field-members :
-    (sheet : List ℕ) (i : ℕ) (rules : OrdinalRules) (tombstoned met again : Bool) (span : Span) (s u v : State) →
-    rules ≡ record { greatest = 65535; too_large = 15; reused = 16; duplicate = 14 } → u ≡ push_ordinal rules sheet i tombstoned met s →
-    span ≡ span_in (record_bytes sheet i) → v ≡ push_if again (record { class = 13; severity = 0; span = span }) u →
-    v ≡ push_found (member_found field_scheme tombstoned met again (view_at sheet i)) s
-unfolding rule_row view_at
-field-members sheet i rules tombstoned met again span s u v which hu hs hv =
-    member-found (record { greatest = 65535; too_large = 15; reused = 16; duplicate = 14 }) 2 3 4 (λ p. refl) (λ p. refl) (λ p. refl)
-    (5 ∷ []) sheet i tombstoned met again s u v (rw which at hu)
-    (hv ∙ all_found 13 5 again span u (λ p. refl) ∙ ap (λ p. push_found (found_all (5 ∷ []) again p) u) hs)
+module _ (sheet : List ℕ) (i : ℕ) (tombstoned met : Bool) (old mid now : Violations) (reference : mid.list.ghost_name ≡ old.list.ghost_name) where
+  -- the rules of a field's ordinal and name
+  pub field-members :
+      (again : Bool) → state_of mid ≡ push_ordinal (record { greatest = 65535; too_large = 15; reused = 16; duplicate = 14 }) sheet i tombstoned met (state_of old) →
+      now.list.ghost_name ≡ mid.list.ghost_name →
+      state_of now ≡ push_if again (record { class = 13; severity = 0; span = span_in (record_bytes sheet i) }) (state_of mid) →
+      Adds old now (member_found field_scheme tombstoned met again (view_at sheet i))
+  unfolding rule_row view_at
+  field-members again state same name = record {
+    reference = same ∙ reference;
+    state =
+        member-found (record { greatest = 65535; too_large = 15; reused = 16; duplicate = 14 }) 2 3 4 (λ p. refl) (λ p. refl) (λ p. refl)
+        (5 ∷ []) sheet i tombstoned met again (state_of old) (state_of mid) (state_of now) state
+        (name ∙ all_found 13 5 again (span_in (record_bytes sheet i)) (state_of mid) (λ p. refl));
+  }
 
--- those of the ordinal of a field whose name is not met
-pub field-alone :
-    (sheet : List ℕ) (i : ℕ) (rules : OrdinalRules) (s u : State) → rules ≡ record { greatest = 65535; too_large = 15; reused = 16; duplicate = 14 } →
-    u ≡ push_ordinal rules sheet i false false s → u ≡ push_found (member_found field_scheme false false false (view_at sheet i)) s
-unfolding rule_row flat_map
-field-alone sheet i rules s u which hu =
-    member-found (record { greatest = 65535; too_large = 15; reused = 16; duplicate = 14 }) 2 3 4 (λ p. refl) (λ p. refl) (λ p. refl)
-    (5 ∷ []) sheet i false false false s u u (rw which at hu) (sym (found_none u))
+  -- those of the ordinal of a field whose name is not met
+  pub field-alone :
+      state_of mid ≡ push_ordinal (record { greatest = 65535; too_large = 15; reused = 16; duplicate = 14 }) sheet i tombstoned met (state_of old) →
+      Adds old mid (member_found field_scheme tombstoned met false (view_at sheet i))
+  unfolding rule_row flat_map
+  field-alone state = record {
+    reference = reference;
+    state =
+        member-found (record { greatest = 65535; too_large = 15; reused = 16; duplicate = 14 }) 2 3 4 (λ p. refl) (λ p. refl) (λ p. refl)
+        (5 ∷ []) sheet i tombstoned met false (state_of old) (state_of mid) (state_of mid) state (sym (found_none (state_of mid)));
+  }
 
-pub enum-members :
-    (sheet : List ℕ) (i : ℕ) (tombstoned met : Bool) (s u : State) →
-    u ≡ push_ordinal (record { greatest = 65535; too_large = 35; reused = 34; duplicate = 34 }) sheet i tombstoned met s →
-    u ≡ push_found (member_found enum_scheme tombstoned met false (view_at sheet i)) s
-unfolding rule_row
-enum-members = nameless-found (record { greatest = 65535; too_large = 35; reused = 34; duplicate = 34 }) 31 32 32 (λ p. refl) (λ p. refl) (λ p. refl)
+  pub enum-members :
+      state_of mid ≡ push_ordinal (record { greatest = 65535; too_large = 35; reused = 34; duplicate = 34 }) sheet i tombstoned met (state_of old) →
+      Adds old mid (member_found enum_scheme tombstoned met false (view_at sheet i))
+  unfolding rule_row
+  enum-members state = record {
+    reference = reference;
+    state =
+        nameless-found (record { greatest = 65535; too_large = 35; reused = 34; duplicate = 34 }) 31 32 32 (λ p. refl) (λ p. refl) (λ p. refl) sheet i tombstoned met
+        (state_of old) (state_of mid) state;
+  }
 
-pub union-members :
-    (sheet : List ℕ) (i : ℕ) (tombstoned met : Bool) (s u : State) →
-    u ≡ push_ordinal (record { greatest = 65535; too_large = 43; reused = 42; duplicate = 42 }) sheet i tombstoned met s →
-    u ≡ push_found (member_found union_scheme tombstoned met false (view_at sheet i)) s
-unfolding rule_row
-union-members = nameless-found (record { greatest = 65535; too_large = 43; reused = 42; duplicate = 42 }) 35 36 36 (λ p. refl) (λ p. refl) (λ p. refl)
+  pub union-members :
+      state_of mid ≡ push_ordinal (record { greatest = 65535; too_large = 43; reused = 42; duplicate = 42 }) sheet i tombstoned met (state_of old) →
+      Adds old mid (member_found union_scheme tombstoned met false (view_at sheet i))
+  unfolding rule_row
+  union-members state = record {
+    reference = reference;
+    state =
+        nameless-found (record { greatest = 65535; too_large = 43; reused = 42; duplicate = 42 }) 35 36 36 (λ p. refl) (λ p. refl) (λ p. refl) sheet i tombstoned met
+        (state_of old) (state_of mid) state;
+  }
 
 -- rule 1 at an invariant
 pub invariant-found :
-    (sheet : List ℕ) (i k : ℕ) (span : Span) (s t : State) → k ≡ kind_in (record_bytes sheet i) → span ≡ span_in (record_bytes sheet i) →
-    t ≡ push_if (eqb k 13) (record { class = 68; severity = 0; span = span }) s →
-    t ≡ push_found (found_if 1 (is Kind.Invariant (view_at sheet i)) (view_at sheet i).place) s
+    (sheet : List ℕ) (i k : ℕ) (old now : Violations) → k ≡ kind_in (record_bytes sheet i) → now.list.ghost_name ≡ old.list.ghost_name →
+    state_of now ≡ push_if (eqb k 13) (record { class = 68; severity = 0; span = span_in (record_bytes sheet i) }) (state_of old) →
+    Adds old now (found_if 1 (is Kind.Invariant (view_at sheet i)) (view_at sheet i).place)
 unfolding rule_row view_at
-invariant-found sheet i k span s t hk hs ht = rw (ht, hk, hs) (found-if 1 (is Kind.Invariant (view_at sheet i)) (span_in (record_bytes sheet i)) s)
+invariant-found sheet i k old now hk same state = rw (← hk) (adds_if 1 (eqb k 13) (span_in (record_bytes sheet i)) old now same state)

@@ -9,14 +9,14 @@ use lib.Dec.{leb, eqb}
 use borrow.Author.Tests.{eqb-true}
 use Rattle.rules.specs.declared.span.Span.{Span}
 use Rattle.rules.specs.Words.{only_if, member, select}
-use Rattle.rules.specs.Record.{Rec, is}
+use Rattle.rules.specs.Record.{Rec, is, value_in, record_bytes}
 use Rattle.rules.specs.Refusals.{max_ordinal}
 use Rattle.rules.proofs.Joined.{length-select}
 use Rattle.names.specs.View.{view_at, view_from, view_of}
 use Rattle.types.proofs.Views.{view-cons}
-use Rattle.bodies.specs.Seen.{latest, narrow, Marked, Kept, Known, ToMeet, MetAt}
+use Rattle.bodies.specs.Seen.{latest, narrow, Marked, Kept, Known}
 use Rattle.bodies.specs.Earlier.{values_of, earlier, values_before}
-use Rattle.bodies.proofs.Marks.{latest-above, latest-store, length-latest, marked-fewer, marked_more, marked-store, unmarked}
+use Rattle.bodies.proofs.Marks.{latest-above, latest-store, length-latest, marked-fewer, marked-store, unmarked}
 use Rattle.bodies.proofs.Narrow.{narrow-kept, narrow-out, narrow-member}
 
 -- the records of a kind before the next record
@@ -110,12 +110,10 @@ module _ (kind tomb : ℕ) (sheet : List ℕ) (a e : ℕ) where
 
   -- a number that row 5 lets through is one of those kept if a record has it
   module _ (tombstones : ℕ) (numbers : List ℕ) (len i v n : ℕ) (k : Kept kind tomb sheet a e tombstones numbers len i) (small : v ≤ 4294967295) (hn : n ≡ v) where
-    pub kept-gone : (found : Bool) → found ≡ member n (latest numbers 0 (tombstones - 0)) → found ≡ member v gone
+    pub kept-gone : (found : Bool) → found ≡ member n (latest numbers 0 tombstones) → found ≡ member v gone
     kept-gone found h =
-        let whole : tombstones - 0 ≡ tombstones = omega arith in
         h
-        ∙ ap (λ x. member x (latest numbers 0 (tombstones - 0))) hn
-        ∙ ap (λ l. member v (latest numbers 0 l)) whole
+        ∙ ap (λ x. member x (latest numbers 0 tombstones)) hn
         ∙ ap (member v) k.4
         ∙ narrow-member v gone small
 
@@ -126,81 +124,69 @@ module _ (kind tomb : ℕ) (sheet : List ℕ) (a e : ℕ) where
         ∙ ap (member v) k.5
         ∙ narrow-member v (values (before i)) small
 
-  module _ (tombstones : ℕ) (numbers marks : List ℕ) (len i v : ℕ) (m : ToMeet kind tomb sheet a e tombstones numbers marks len i v) where
-    -- there is room for one number more
-    pub met-room : len < 1024
-    met-room = omega (arith, m.3.4, left-member kind sheet i e m.0 m.1)
+  -- record i is an item, and its ordinal is to be met
+  module _
+      (tombstones : ℕ)
+      (numbers marks : List ℕ)
+      (len i v : ℕ)
+      (inside : i < e)
+      (item : is kind (view_at sheet i) ≡ true)
+      (read : v ≡ value_in (record_bytes sheet i))
+      (k : Known kind tomb sheet a e tombstones numbers marks len i)
+    where
+      -- there is room for one number more
+      pub met-room : len < 1024
+      met-room = omega (arith, k.4, left-member kind sheet i e inside item)
 
-    pub met-asks : Kept kind tomb sheet a e tombstones numbers len i
-    met-asks = (m.3.2, m.0, m.3.3, met-room, m.3.5, m.3.6)
+      pub met-asks : Kept kind tomb sheet a e tombstones numbers len i
+      met-asks = (k.2, inside, k.3, met-room, k.5, k.6)
 
-    next : v ∷ values (before i) ≡ values_before kind sheet a (i + 1)
-    unfolding view_at
-    next = ap (λ x. x ∷ values (before i)) m.2 ∙ values-next tombstones numbers marks len i m.3 true m.1
+      next : v ∷ values (before i) ≡ values_before kind sheet a (i + 1)
+      unfolding view_at
+      next = ap (λ x. x ∷ values (before i)) read ∙ values-next tombstones numbers marks len i k true item
 
-    -- a number that row 5 does not let through
-    pub met-out :
-        (tombstoned met : Bool) → 4294967295 < v → tombstoned ≡ member v gone → met ≡ member v (values (before i)) →
-        MetAt kind tomb sheet a e tombstones numbers marks i v (record { tombstoned = tombstoned; met = met; len = len })
-    met-out tombstoned met wide ht hm =
-        let k = m.3 in (
-          ht,
-          hm,
-          (
-            k.0,
-            k.1,
-            omega (arith, k.2),
-            k.3,
-            omega (arith, k.4, left-member kind sheet i e m.0 m.1),
-            k.5,
-            k.6 ∙ sym (narrow-out v (values (before i)) wide) ∙ ap narrow next,
-            k.7,
-          ),
-        )
-
-    -- and one that it does
-    known_kept :
-        (marks' : List ℕ) → v ≤ 4294967295 → length marks' ≡ 1021 → Marked (set numbers len v) marks' (len + 1) →
-        Known kind tomb sheet a e tombstones (set numbers len v) marks' (len + 1) (i + 1)
-    known_kept marks' small size all =
-        let k = m.3 in
-        let more : len + 1 - tombstones ≡ len - tombstones + 1 = omega (arith, k.3) in (
-          length-set numbers len v ∙ k.0,
-          size,
-          omega (arith, k.2),
-          omega (arith, k.3),
-          omega (arith, k.4, left-member kind sheet i e m.0 m.1),
-          latest-above numbers len v 0 tombstones (omega (arith, k.3)) ∙ k.5,
-          ap (latest (set numbers len v) tombstones) more
-              ∙ latest-store numbers tombstones (len - tombstones) len v (omega (arith, k.3)) (omega (arith, k.0, met-room))
-              ∙ ap (λ xs. v ∷ xs) k.6
-              ∙ sym (narrow-kept v (values (before i)) small)
-              ∙ ap narrow next,
-          all,
-        )
-
-    module _ (n p : ℕ) (small : v ≤ 4294967295) (hn : n ≡ v) (hp : p ≡ n % 1021) where
-      -- whose mark is set already
-      pub met-again :
-          (tombstoned met : Bool) → (get_or marks p 0 ≡ 0 → ⊥) → tombstoned ≡ member v gone → met ≡ member v (values (before i)) →
-          MetAt kind tomb sheet a e tombstones (set numbers len n) marks i v (record { tombstoned = tombstoned; met = met; len = len + 1 })
-      met-again tombstoned met one ht hm =
-          let set-already : get_or marks (v % 1021) 0 ≡ 0 → ⊥ = rw (hp, hn) at one in (
-            ht,
-            hm,
-            rw hn
-                (known_kept marks small m.3.1
-                (marked_more numbers marks len v (omega (arith, m.3.0, met-room)) set-already m.3.7)),
-          )
-
-      -- whose mark is 0: no record before has it
-      pub met-new :
-          get_or marks p 0 ≡ 0 → MetAt kind tomb sheet a e tombstones (set numbers len n) (set marks p 1) i v (record { tombstoned = false; met = false; len = len + 1 })
-      met-new z = (
-        kept-gone tombstones numbers len i v n met-asks small hn false
-            (unmarked numbers marks n 0 tombstones p hp z (marked-fewer numbers marks tombstones len m.3.3 m.3.7) (omega arith)),
-        kept-before tombstones numbers len i v n met-asks small hn false (unmarked numbers marks n tombstones len p hp z m.3.7 m.3.3),
-        rw (hp, hn)
-            (known_kept (set marks (v % 1021) 1) small (length-set marks (v % 1021) 1 ∙ m.3.1)
-            (marked-store numbers marks len v (omega (arith, m.3.0, met-room)) m.3.1 m.3.7)),
+      -- a number that row 5 does not let through
+      pub known-out : 4294967295 < v → Known kind tomb sheet a e tombstones numbers marks len (i + 1)
+      known-out wide = (
+        k.0,
+        k.1,
+        omega (arith, k.2),
+        k.3,
+        omega (arith, k.4, left-member kind sheet i e inside item),
+        k.5,
+        k.6 ∙ sym (narrow-out v (values (before i)) wide) ∙ ap narrow next,
+        k.7,
       )
+
+      module _ (n : ℕ) (small : v ≤ 4294967295) (hn : n ≡ v) where
+        -- one that it does is kept
+        pub known-kept : Known kind tomb sheet a e tombstones (set numbers len n) (set marks (n % 1021) 1) (len + 1) (i + 1)
+        known-kept =
+            let more : len + 1 - tombstones ≡ len - tombstones + 1 = omega (arith, k.3) in (
+              length-set numbers len n ∙ k.0,
+              length-set marks (n % 1021) 1 ∙ k.1,
+              omega (arith, k.2),
+              omega (arith, k.3),
+              omega (arith, k.4, left-member kind sheet i e inside item),
+              latest-above numbers len n 0 tombstones (omega (arith, k.3)) ∙ k.5,
+              ap (latest (set numbers len n) tombstones) more
+                  ∙ latest-store numbers tombstones (len - tombstones) len n (omega (arith, k.3)) (omega (arith, k.0, met-room))
+                  ∙ ap (λ xs. n ∷ xs) k.6
+                  ∙ ap (λ x. x ∷ narrow (values (before i))) hn
+                  ∙ sym (narrow-kept v (values (before i)) small)
+                  ∙ ap narrow next,
+              marked-store numbers marks len n (omega (arith, k.0, met-room)) k.1 k.7,
+            )
+
+        -- and where its mark is 0, no record before has it
+        module _ (p : ℕ) (hp : p ≡ n % 1021) (z : get_or marks p 0 ≡ 0) where
+          pub unmet-gone : false ≡ member v gone
+          unmet-gone =
+              kept-gone tombstones numbers len i v n met-asks small hn false
+              (rw whole at (unmarked numbers marks n 0 tombstones p hp z (marked-fewer numbers marks tombstones len k.3 k.7) (omega arith)))
+            where
+              whole : tombstones - 0 ≡ tombstones
+              whole = omega arith
+
+          pub unmet-before : false ≡ member v (values (before i))
+          unmet-before = kept-before tombstones numbers len i v n met-asks small hn false (unmarked numbers marks n tombstones len p hp z k.7 k.3)

@@ -6,17 +6,14 @@ use mathlib.Core.Bool.{Bool, true, false, not, ◌&&◌, ◌||◌}
 use mathlib.Core.List.{List, [], ◌∷◌, ◌++◌, append-nil, append_assoc}
 use native.Mathlib.Decide.{ℕ_discrete}
 use native.Mathlib.Omega.{arith}
-use lib.Dec.{leb, ltb, eqb}
+use lib.Dec.{leb, ltb}
 use borrow.Author.Tests.{leb-true, leb-false, not-true, not-false, lt-ltb, le-ltb}
 use Rattle.rules.specs.declared.span.Span.{Span}
 use Rattle.rules.specs.Words.{within, first_is, front, rest}
-use Rattle.rules.specs.Kind
-use Rattle.rules.specs.Record.{Rec, record_bytes, kind_in}
+use Rattle.rules.specs.Record.{Rec}
 use Rattle.names.specs.View.{view_at, view_from, view_of}
 use Rattle.types.proofs.Views.{view-cons, view-none}
-use Rattle.bodies.specs.declared.runs.Run.{Run}
-use Rattle.bodies.specs.declared.runs.Run.TheVariants.{Front, Annotations, Optionals, Types, BitNames, FieldItem, Item}
-use Rattle.bodies.specs.Runs.{in_run, EndsAt, AllIn}
+use Rattle.bodies.specs.Runs.{EndsAt, AllIn, RunTo}
 
 -- a number that is not between two bounds is under the one or over the other
 under : (a b : ℕ) → ltb b a ≡ not (leb a b)
@@ -32,36 +29,6 @@ either false q = refl
 
 pub outside : (low high n : ℕ) → (ltb n low || ltb high n) ≡ not (within low high n)
 outside low high n = rw (under low n, under n high) (either (leb low n) (leb n high))
-
--- the kinds of each run
-module _ (run : Run) (sheet : List ℕ) (i k : ℕ) (read : k ≡ kind_in (record_bytes sheet i)) where
-  pub in-front : run ≡ Front → not (eqb k Kind.Head) ≡ in_run run (view_at sheet i)
-  unfolding view_at
-  in-front which = rw (which, read)
-
-  pub in-annotations : run ≡ Annotations → (leb Kind.Annotation k && leb k Kind.Argument) ≡ in_run run (view_at sheet i)
-  unfolding view_at
-  in-annotations which = rw (which, read)
-
-  pub in-optionals : run ≡ Optionals → eqb k Kind.Optional ≡ in_run run (view_at sheet i)
-  unfolding view_at
-  in-optionals which = rw (which, read)
-
-  pub in-types : (type : Bool) → run ≡ Types → type ≡ Kind.is_type k → type ≡ in_run run (view_at sheet i)
-  unfolding view_at
-  in-types type which h = rw (which, h, read)
-
-  pub in-bit-names : run ≡ BitNames → eqb k Kind.BitName ≡ in_run run (view_at sheet i)
-  unfolding view_at
-  in-bit-names which = rw (which, read)
-
-  pub in-field-item : run ≡ FieldItem → (ltb k Kind.Field || ltb Kind.Invariant k) ≡ in_run run (view_at sheet i)
-  unfolding view_at
-  in-field-item which = rw (which, read) (outside Kind.Field Kind.Invariant (kind_in (record_bytes sheet i)))
-
-  pub in_item : run ≡ Item → (ltb k Kind.Variant || ltb Kind.Tombstone k) ≡ in_run run (view_at sheet i)
-  unfolding view_at
-  in_item which = rw (which, read) (outside Kind.Variant Kind.Tombstone (kind_in (record_bytes sheet i)))
 
 -- one record more
 view-last : (sheet : List ℕ) (n a : ℕ) → view_from sheet a (suc n) ≡ view_from sheet a n ++ view_at sheet (a + n) ∷ []
@@ -84,11 +51,12 @@ pub ends-out : (p : Rec ℕ Span → Bool) (sheet : List ℕ) (a e r : ℕ) → 
 unfolding EndsAt
 ends-out p sheet a e r ends h = ap (first_is p) (sym (view-cons sheet r e h) ∙ ends.1) ∙ rest-first p (view_of sheet a e)
 
-module _ (p : Rec ℕ Span → Bool) (sheet : List ℕ) (a e : ℕ) where
-  -- what is known of the end of a run
-  abbrev pub RunTo : ℕ → Type 0
-  RunTo r = EndsAt p sheet a e r × (r ≤ e) × (a ≤ e → a ≤ r) × AllIn p sheet a r
+-- no record fails a test yet
+pub all_none : (p : Rec ℕ Span → Bool) (sheet : List ℕ) (a : ℕ) → AllIn p sheet a a
+unfolding AllIn
+all_none p sheet a = λ j l lt. absurd (omega arith)
 
+module _ (p : Rec ℕ Span → Bool) (sheet : List ℕ) (a e : ℕ) where
   -- the records from a up to i are of the run, and so what follows them is cut where all are
   pub record Passed (i : ℕ) : Type 0 where
     pub least : a ≤ i
@@ -124,7 +92,7 @@ module _ (p : Rec ℕ Span → Bool) (sheet : List ℕ) (a e : ℕ) where
         further of j l lt (yes same) = rw same of
         further of j l lt (no differ) = passed.all j l (omega arith)
 
-    pub passed-end : (here : Bool) → i < e → here ≡ p (view_at sheet i) → not here ≡ true → RunTo i
+    pub passed-end : (here : Bool) → i < e → here ≡ p (view_at sheet i) → not here ≡ true → RunTo p sheet a e i
     unfolding EndsAt front rest
     passed-end here h read one =
         let cons = view-cons sheet i e h in
@@ -135,7 +103,7 @@ module _ (p : Rec ℕ Span → Bool) (sheet : List ℕ) (a e : ℕ) where
           passed.all,
         )
 
-    pub passed-all : e ≤ i → RunTo e
+    pub passed-all : e ≤ i → RunTo p sheet a e e
     unfolding EndsAt front rest AllIn
     passed-all h =
         let size : i - a ≡ e - a = omega arith in
@@ -164,15 +132,15 @@ module _ (p : Rec ℕ Span → Bool) (sheet : List ℕ) (a e : ℕ) where
       let last : i + (j - i) ≡ j = omega arith in
       rw last at (passed-by i (j - i) passed (omega arith) (rw (sym last) at all))
 
-  pub passed-out : (r : ℕ) → Passed r → r ≤ e → (r < e → p (view_at sheet r) ≡ false) → RunTo r
+  pub passed-out : (r : ℕ) → Passed r → r ≤ e → (r < e → p (view_at sheet r) ≡ false) → RunTo p sheet a e r
   passed-out r passed most out = by (ℕ_discrete r e)
     where
-      by : Dec (r ≡ e) → RunTo r
+      by : Dec (r ≡ e) → RunTo p sheet a e r
       by (yes same) = rw same (passed-all r passed (omega arith))
       by (no differ) = let h : r < e = omega arith in passed-end r passed false h (sym (out h)) refl
 
   -- a run goes on behind records of it
-  pub run_on : (m r : ℕ) → a ≤ m → m ≤ e → AllIn p sheet a m → EndsAt p sheet m e r × (r ≤ e) × (m ≤ e → m ≤ r) × AllIn p sheet m r → RunTo r
+  pub run_on : (m r : ℕ) → a ≤ m → m ≤ e → AllIn p sheet a m → EndsAt p sheet m e r × (r ≤ e) × (m ≤ e → m ≤ r) × AllIn p sheet m r → RunTo p sheet a e r
   run_on m r least most all run =
       passed-out r
       (passed_to m r (passed_to a m none_passed least most all) (run.2 most) run.1 run.3)

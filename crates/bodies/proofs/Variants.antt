@@ -1,10 +1,9 @@
 -- The variants of an enum or a union: what is known before each record, and what is still to add.
 use Prim.Native.Nat.{ℕ, zero, suc, ◌+◌, ◌-◌, ◌≤◌, ◌<◌}
 use native.Mathlib.Omega.{arith}
-use mathlib.Core.Path.{◌≡◌, refl, sym, ap, ap₂, ◌∙◌}
+use mathlib.Core.Path.{◌≡◌, refl, sym, ap, ap₂, subst, ◌∙◌}
 use mathlib.Core.Bool.{Bool, true, false, not, ◌&&◌}
 use mathlib.Core.List.{List, [], ◌++◌, append-nil, flat_map}
-use lib.ListN.{length}
 use borrow.Author.Tests.{eqb-true, not-true}
 use Rattle.rules.specs.declared.span.Span.{Span}
 use Rattle.rules.specs.Words.{only_if, any_of, member, front, Item, items}
@@ -15,21 +14,27 @@ use Rattle.rules.specs.Grammar.{starts_item}
 use Rattle.rules.specs.Rule.{Found}
 use Rattle.rules.specs.Bodies.{Scheme, enum_scheme, union_scheme, is_member, items_violations, list_violations, body_items, field_list_violations, union_violations}
 use Rattle.rules.proofs.Taken.{outside-is}
-use Rattle.names.specs.View.{view_at, view_of, context_by}
-use Rattle.diagnostic.specs.Push.{State, push_found}
-use Rattle.diagnostic.proofs.FoundPushes.{found_none, found-then}
+use Rattle.names.specs.View.{view_at, view_of}
+use Rattle.names.specs.Known.{table_of, context_in, records_in}
+use Rattle.diagnostic.specs.declared.violations.Violations.{Violations}
+use Rattle.diagnostic.specs.Push.{push_found}
+use Rattle.diagnostic.specs.Violations.{state_of, Adds}
+use Rattle.diagnostic.proofs.FoundPushes.{found_none}
+use Rattle.diagnostic.proofs.Added.{adds_then}
 use Rattle.annotations.proofs.FoundSteps.{found-step}
+use Rattle.bodies.specs.declared.whole.WholeRecords.{WholeRecords}
 use Rattle.bodies.specs.declared.seen.Seen.{Seen}
+use Rattle.bodies.specs.declared.seen.ItemList.{ItemList}
 use Rattle.bodies.specs.declared.seen.Meeting.{Meeting}
-use Rattle.bodies.specs.Seen.{latest, narrow, Marked, Known, MetAt}
-use Rattle.bodies.specs.Earlier.{values_of, earlier}
-use Rattle.bodies.specs.declared.runs.Run.TheVariants as Run
-use Rattle.bodies.specs.Runs.{in_run, EndsAt, AllIn}
+use Rattle.bodies.specs.Seen.{Known}
+use Rattle.bodies.specs.Met.{sheet_of, tombstoned_in, met_before, KnownBefore}
+use Rattle.bodies.specs.Earlier.{earlier}
+use Rattle.bodies.specs.Runs.{in_item, EndsAt, AllIn, RunTo}
 use Rattle.bodies.specs.Items.{variant_found}
 use Rattle.bodies.specs.Ordinal.{push_ordinal, member_found}
 use Rattle.bodies.proofs.BodyItems.{item-member}
-use Rattle.bodies.proofs.Ordinals.{union-members}
-use Rattle.bodies.proofs.Passing.{values, gone, before, known_start, known-other}
+use Rattle.bodies.proofs.Ordinals.{enum-members, union-members}
+use Rattle.bodies.proofs.Passing.{values, gone, before, known-other}
 use Rattle.bodies.proofs.Turns.{names_of, kind-is, kind-not, left, item_at, turn-member, turn-other, turn-inner, turn-none}
 use Rattle.bodies.proofs.Retired.{retired-items}
 use Rattle.bodies.proofs.FieldTurns.{member-tests}
@@ -47,9 +52,17 @@ module _
     (plain : scheme.renamed ≡ [])
     (own : Item (Rec ℕ Span) → List (Found Span))
     (nothing : (it : Item (Rec ℕ Span)) → is Kind.Variant it.head ≡ false → own it ≡ [])
-    (sheet : List ℕ)
-    (a e : ℕ)
+    (body : WholeRecords)
   where
+    abbrev sheet : List ℕ
+    sheet = body.context.sheet.now
+
+    abbrev a : ℕ
+    a = body.range.start
+
+    abbrev e : ℕ
+    e = body.range.end
+
     abbrev tombs : List ℕ
     tombs = gone 14 15 sheet a e
 
@@ -62,13 +75,17 @@ module _
     abbrev variants : ℕ → List (Rec ℕ Span)
     variants i = before 14 15 sheet a e i
 
+    -- the list of the body's variants
+    abbrev pub variants_of : ItemList
+    variants_of = record { records = body; item = Kind.Variant; tombstone = Kind.Tombstone }
+
     -- before record i of the body
-    abbrev pub VariantsKnown : ℕ → Seen → List ℕ → State → State → ℕ → Type 0
-    VariantsKnown tombstones seen marks s₀ s i =
-        (length s.0 ≡ length s₀.0)
-        × (i ≤ e)
-        × Known 14 15 sheet a e tombstones seen.ordinals marks seen.len i
-        × (push_found (still i) s ≡ push_found (list_violations ctx scheme own (body_items (view_of sheet a e))) s₀)
+    pub record VariantsKnown (seen : Seen) (old now : Violations) (i : ℕ) : Type 0 where
+      pub reference : now.list.ghost_name ≡ old.list.ghost_name
+      pub list : seen.list ≡ variants_of
+      pub most : i ≤ e
+      pub known : Known 14 15 sheet a e seen.tombstones seen.ordinals seen.marks seen.len i
+      pub found : push_found (still i) (state_of now) ≡ push_found (list_violations ctx scheme own (body_items (view_of sheet a e))) (state_of old)
 
     variants-start : still a ≡ list_violations ctx scheme own (body_items (view_of sheet a e))
     unfolding earlier
@@ -76,20 +93,14 @@ module _
         let none : a - a ≡ 0 = omega arith in
         rw none (ap (λ xs. items_violations ctx scheme own xs [] [] (items starts_item (view_of sheet a e))) (sym (retired-items (view_of sheet a e))))
 
-    pub variants-none :
-        (tombstones : ℕ) (ordinals marks : List ℕ) (s : State) → a ≤ e → e ≤ 1024 →
-        (length ordinals ≡ 1024)
-        × (length marks ≡ 1021)
-        × (tombstones ≤ e - a)
-        × (latest ordinals 0 tombstones ≡ narrow (values_of 15 (view_of sheet a e)))
-        × Marked ordinals marks tombstones →
-        VariantsKnown tombstones (record { ordinals = ordinals; len = tombstones }) marks s s a
-    variants-none tombstones ordinals marks s le small c = (
-      refl,
-      le,
-      known_start 14 15 sheet a e ordinals marks tombstones (λ f. absurd (omega (arith, f))) small c.0 c.1 c.3 c.4,
-      ap (λ fs. push_found fs s) variants-start,
-    )
+    pub variants-none : (seen : Seen) (vs : Violations) → seen.list ≡ variants_of → KnownBefore seen a → VariantsKnown seen vs vs a
+    variants-none seen vs list known = record {
+      reference = refl;
+      list = list;
+      most = body.ordered;
+      known = rw list at known;
+      found = ap (λ fs. push_found fs (state_of vs)) variants-start;
+    }
 
     other-left : (i : ℕ) → a ≤ i → i < e → is Kind.Variant (at i) ≡ false → still i ≡ still (i + 1)
     other-left i le h t = go (starts_item (at i)) refl
@@ -100,36 +111,46 @@ module _
             ∙ ap (λ fs. fs ++ still (i + 1)) (nothing (item_at ctx scheme own starts_item 14 sheet a e tombs i) t)
         go false st = turn-inner ctx scheme own starts_item 14 sheet a e tombs i le h st t
 
-    variants-next :
-        (tombstones : ℕ) (seen : Seen) (marks : List ℕ) (s₀ s : State) (i : ℕ) → VariantsKnown tombstones seen marks s₀ s i → i < e → is Kind.Variant (at i) ≡ false →
-        VariantsKnown tombstones seen marks s₀ s (i + 1)
-    variants-next tombstones seen marks s₀ s i known h test = (
-      known.0,
-      omega arith,
-      known-other 14 15 sheet a e tombstones seen.ordinals marks seen.len i known.2 h test,
-      ap (λ fs. push_found fs s) (sym (other-left i known.2.2 h test)) ∙ known.3,
-    )
+    module _ (seen : Seen) (old now : Violations) where
+      variants-next : (i : ℕ) → VariantsKnown seen old now i → i < e → is Kind.Variant (at i) ≡ false → VariantsKnown seen old now (i + 1)
+      variants-next i k h test = record {
+        reference = k.reference;
+        list = k.list;
+        most = omega arith;
+        known = known-other 14 15 sheet a e seen.tombstones seen.ordinals seen.marks seen.len i k.known h test;
+        found = ap (λ fs. push_found fs (state_of now)) (sym (other-left i k.known.2 h test)) ∙ k.found;
+      }
 
-    -- a record that is no variant
-    pub variants-other :
-        (tombstones : ℕ) (seen : Seen) (marks : List ℕ) (s₀ s : State) (i k : ℕ) → VariantsKnown tombstones seen marks s₀ s i → i < e →
-        k ≡ kind_in (record_bytes sheet i) → (k ≡ 14 → ⊥) → VariantsKnown tombstones seen marks s₀ s (i + 1)
-    variants-other tombstones seen marks s₀ s i k known h hk ne =
-        variants-next tombstones seen marks s₀ s i known h (kind-not sheet i k 14 hk ne)
+      -- a record that is no variant
+      pub variants-other : (i kind : ℕ) → VariantsKnown seen old now i → i < e → kind ≡ kind_in (record_bytes sheet i) → (kind ≡ 14 → ⊥) → VariantsKnown seen old now (i + 1)
+      variants-other i kind k h hk ne = variants-next i k h (kind-not sheet i kind 14 hk ne)
 
-    -- all records up to the next item
-    pub variants-parts :
-        (tombstones : ℕ) (seen : Seen) (marks : List ℕ) (s₀ s : State) (i n : ℕ) → VariantsKnown tombstones seen marks s₀ s i → i + n ≤ e →
-        AllIn (in_run Run.Item) sheet i (i + n) → VariantsKnown tombstones seen marks s₀ s (i + n)
-    unfolding AllIn
-    variants-parts tombstones seen marks s₀ s i zero known h all = let none : i + 0 ≡ i = omega arith in rw none known
-    variants-parts tombstones seen marks s₀ s i (suc n) known h all =
-        let more : i + suc n ≡ i + n + 1 = omega arith in
-        rw more
-        (variants-next tombstones seen marks s₀ s (i + n)
-        (variants-parts tombstones seen marks s₀ s i n known (omega arith) (λ j l lt. all j l (omega arith))) (omega arith)
-        (outside-is Kind.Variant Kind.Tombstone Kind.Variant (at (i + n)).kind refl
-        (not-true (starts_item (at (i + n))) (all (i + n) (omega arith) (omega arith)))))
+      -- all records up to the next item
+      variants-parts :
+          (i n : ℕ) → VariantsKnown seen old now i → i + n ≤ e → AllIn in_item sheet i (i + n) → VariantsKnown seen old now (i + n)
+      unfolding AllIn
+      variants-parts i zero k h all = let none : i + 0 ≡ i = omega arith in rw none k
+      variants-parts i (suc n) k h all =
+          let more : i + suc n ≡ i + n + 1 = omega arith in
+          rw more
+          (variants-next (i + n) (variants-parts i n k (omega arith) (λ j l lt. all j l (omega arith))) (omega arith)
+          (outside-is Kind.Variant Kind.Tombstone Kind.Variant (at (i + n)).kind refl
+          (not-true (starts_item (at (i + n))) (all (i + n) (omega arith) (omega arith)))))
+
+      pub variants-to :
+          (i end : ℕ) → VariantsKnown seen old now i → i ≤ end → end ≤ e → AllIn in_item sheet i end → VariantsKnown seen old now end
+      variants-to i end k le h all =
+          let last : i + (end - i) ≡ end = omega arith in
+          rw last at (variants-parts i (end - i) k (omega arith) (rw (sym last) at all))
+
+      pub variants-end : (i : ℕ) → VariantsKnown seen old now i → e ≤ i → Adds old now (list_violations ctx scheme own (body_items (view_of sheet a e)))
+      variants-end i k h = record {
+        reference = k.reference;
+        state =
+            sym (found_none (state_of now))
+            ∙ ap (λ fs. push_found fs (state_of now)) (sym (turn-none ctx scheme own starts_item 14 sheet a e tombs i h))
+            ∙ k.found;
+      }
 
     -- no name is asked for
     names-free : (tombstoned met b c : Bool) (r : Rec ℕ Span) → member_found scheme tombstoned met b r ≡ member_found scheme tombstoned met c r
@@ -137,139 +158,105 @@ module _
     names-free tombstoned met b c r = rw plain refl
 
     -- a variant
-    pub variants-variant :
-        (tombstones : ℕ) (seen : Seen) (marks ordinals' marks' : List ℕ) (s₀ s t : State) (i k ordinal : ℕ) (m : Meeting) →
-        VariantsKnown tombstones seen marks s₀ s i → i < e → k ≡ kind_in (record_bytes sheet i) → k ≡ 14 →
-        ordinal ≡ value_in (record_bytes sheet i) → MetAt 14 15 sheet a e tombstones ordinals' marks' i ordinal m → length t.0 ≡ length s.0 →
-        t ≡ push_found (member_found scheme m.tombstoned m.met false (at i) ++ own (item_at ctx scheme own starts_item 14 sheet a e tombs i)) s →
-        VariantsKnown tombstones (record { ordinals = ordinals'; len = m.len }) marks' s₀ t (i + 1)
-    unfolding view_at
-    variants-variant tombstones seen marks ordinals' marks' s₀ s t i k ordinal m known h hk eq ho hm size hs =
-        let test : is Kind.Variant (at i) ≡ true = kind-is sheet i k 14 hk eq in
-        let again : Bool = any_of (ctx.same (at i).name) (names_of (variants i)) in
-        let dead : m.tombstoned ≡ member (value_in (record_bytes sheet i)) tombs = hm.0 ∙ ap (λ v. member v tombs) ho in (
-          size ∙ known.0,
-          omega arith,
-          hm.2,
-          found-step _ _ _ s t _
-              (turn-member ctx scheme own starts_item 14 sheet a e tombs i known.2.2 h (variant-starts (at i) test) (variant-member (at i) test) test
-              ∙ ap (λ fs. fs ++ own (item_at ctx scheme own starts_item 14 sheet a e tombs i) ++ still (i + 1))
-              (sym (names-free m.tombstoned m.met false again (at i)
-              ∙ member-tests ctx scheme tombs (values (variants i)) (names_of (variants i)) (at i) m.tombstoned m.met again dead
-              (ap₂ (λ g m. not g && m) dead
-              (hm.1 ∙ ap (λ v. member v (values (variants i))) ho))
-              refl)))
-              hs known.3,
-        )
+    module _ (seen : Seen) (old now : Violations) (i kind ordinal : ℕ) (k : VariantsKnown seen old now i) (h : i < e) (hk : kind ≡ kind_in (record_bytes sheet i)) (eq : kind ≡ 14) where
+      test : is Kind.Variant (at i) ≡ true
+      test = kind-is sheet i kind 14 hk eq
 
-    pub variants-end :
-        (tombstones : ℕ) (seen : Seen) (marks : List ℕ) (s₀ s : State) (i : ℕ) → VariantsKnown tombstones seen marks s₀ s i → e ≤ i →
-        s ≡ push_found (list_violations ctx scheme own (body_items (view_of sheet a e))) s₀
-    variants-end tombstones seen marks s₀ s i known h =
-        sym (found_none s)
-        ∙ ap (λ fs. push_found fs s) (sym (turn-none ctx scheme own starts_item 14 sheet a e tombs i h))
-        ∙ known.3
+      pub meets-item : is seen.list.item (view_at (sheet_of seen.list) i) ≡ true
+      meets-item = rw k.list test
 
-module _ (table sheet : List ℕ) (a e : ℕ) where
+      pub variants-variant :
+          (seen' : Seen) (now' : Violations) (m : Meeting) → ordinal ≡ value_in (record_bytes sheet i) → seen'.list ≡ seen.list →
+          m.tombstoned ≡ tombstoned_in seen.list ordinal → m.met ≡ met_before seen.list i ordinal → KnownBefore seen' (i + 1) →
+          Adds now now' (member_found scheme m.tombstoned m.met false (at i) ++ own (item_at ctx scheme own starts_item 14 sheet a e tombs i)) →
+          VariantsKnown seen' old now' (i + 1)
+      unfolding view_at
+      variants-variant seen' now' m ho same ht hm known' adds =
+          let again : Bool = any_of (ctx.same (at i).name) (names_of (variants i)) in
+          let whole : seen'.list ≡ variants_of = same ∙ k.list in
+          let dead : m.tombstoned ≡ member (value_in (record_bytes sheet i)) tombs = rw (k.list, ho) at ht in
+          let met : m.met ≡ member (value_in (record_bytes sheet i)) (values (variants i)) = rw (k.list, ho) at hm in
+          record {
+            reference = adds.reference ∙ k.reference;
+            list = whole;
+            most = omega arith;
+            known = rw whole at known';
+            found =
+                found-step _ _ _ (state_of now) (state_of now') _
+                (turn-member ctx scheme own starts_item 14 sheet a e tombs i k.known.2 h (variant-starts (at i) test) (variant-member (at i) test) test
+                ∙ ap (λ fs. fs ++ own (item_at ctx scheme own starts_item 14 sheet a e tombs i) ++ still (i + 1))
+                (sym (names-free m.tombstoned m.met false again (at i)
+                ∙ member-tests ctx scheme tombs (values (variants i)) (names_of (variants i)) (at i) m.tombstoned m.met again dead
+                (ap₂ (λ g m. not g && m) dead met)
+                refl)))
+                adds.state k.found;
+          }
+
+-- an enum's variants have nothing of their own
+abbrev pub enum_own : Item (Rec ℕ Span) → List (Found Span)
+enum_own it = []
+
+abbrev pub enum_nothing : (it : Item (Rec ℕ Span)) → is Kind.Variant it.head ≡ false → enum_own it ≡ []
+enum_nothing it h = refl
+
+-- a union's have fields
+abbrev pub union_own : ValidationContext ℕ Span → Item (Rec ℕ Span) → List (Found Span)
+union_own ctx it = only_if (is Kind.Variant it.head) (field_list_violations ctx it.rest)
+
+pub union_nothing : (ctx : ValidationContext ℕ Span) (it : Item (Rec ℕ Span)) → is Kind.Variant it.head ≡ false → union_own ctx it ≡ []
+union_nothing ctx it h = ap (λ b. only_if b (field_list_violations ctx it.rest)) h
+
+module _ (body : WholeRecords) where
   abbrev ctx : ValidationContext ℕ Span
-  ctx = context_by table sheet
+  ctx = context_in body.context
 
-  -- an enum's variants have nothing of their own
-  abbrev enum_own : Item (Rec ℕ Span) → List (Found Span)
-  enum_own it = []
+  abbrev pub EnumKnown : Seen → Violations → Violations → ℕ → Type 0
+  EnumKnown = VariantsKnown ctx enum_scheme refl enum_own enum_nothing body
 
-  abbrev enum_nothing : (it : Item (Rec ℕ Span)) → is Kind.Variant it.head ≡ false → enum_own it ≡ []
-  enum_nothing it h = refl
+  abbrev pub UnionKnown : Seen → Violations → Violations → ℕ → Type 0
+  UnionKnown = VariantsKnown ctx union_scheme refl (union_own ctx) (union_nothing ctx) body
 
-  abbrev pub EnumKnown : ℕ → Seen → List ℕ → State → State → ℕ → Type 0
-  EnumKnown = VariantsKnown ctx enum_scheme refl enum_own enum_nothing sheet a e
+  module _ (seen seen' : Seen) (old now now' : Violations) (i kind ordinal : ℕ) (m : Meeting) where
+    pub enum-variant :
+        EnumKnown seen old now i → i < body.range.end → kind ≡ kind_in (record_bytes body.context.sheet.now i) → kind ≡ 14 →
+        ordinal ≡ value_in (record_bytes body.context.sheet.now i) → seen'.list ≡ seen.list → m.tombstoned ≡ tombstoned_in seen.list ordinal →
+        m.met ≡ met_before seen.list i ordinal → KnownBefore seen' (i + 1) → now'.list.ghost_name ≡ now.list.ghost_name →
+        state_of now'
+        ≡ push_ordinal (record { greatest = 65535; too_large = 35; reused = 34; duplicate = 34 }) body.context.sheet.now i m.tombstoned m.met (state_of now) →
+        EnumKnown seen' old now' (i + 1)
+    enum-variant k h hk eq ho same ht hm known' reference state =
+        variants-variant ctx enum_scheme refl enum_own enum_nothing body seen old now i kind ordinal k h hk eq seen' now' m ho same ht hm known'
+        (rw append-nil (enum-members body.context.sheet.now i m.tombstoned m.met now now' now' reference state))
 
-  pub enum-none :
-      (tombstones : ℕ) (ordinals marks : List ℕ) (s : State) → a ≤ e → e ≤ 1024 →
-      (length ordinals ≡ 1024)
-      × (length marks ≡ 1021)
-      × (tombstones ≤ e - a)
-      × (latest ordinals 0 tombstones ≡ narrow (values_of 15 (view_of sheet a e)))
-      × Marked ordinals marks tombstones →
-      EnumKnown tombstones (record { ordinals = ordinals; len = tombstones }) marks s s a
-  enum-none = variants-none ctx enum_scheme refl enum_own enum_nothing sheet a e
+    pub union-variant :
+        (end : ℕ) → UnionKnown seen old now i → i < body.range.end → kind ≡ kind_in (record_bytes body.context.sheet.now i) → kind ≡ 14 →
+        ordinal ≡ value_in (record_bytes body.context.sheet.now i) → seen'.list ≡ seen.list → m.tombstoned ≡ tombstoned_in seen.list ordinal →
+        m.met ≡ met_before seen.list i ordinal → KnownBefore seen' (i + 1) → RunTo in_item body.context.sheet.now (i + 1) body.range.end end →
+        Adds now now' (variant_found (table_of body.context) body.context.sheet.now i end m.tombstoned m.met) → UnionKnown seen' old now' end
+    unfolding variant_found EndsAt
+    union-variant end k h hk eq ho same ht hm known' ends adds =
+        let sheet = body.context.sheet.now in
+        let variant : is Kind.Variant (view_at sheet i) ≡ true = kind-is sheet i kind 14 hk eq in
+        variants-to ctx union_scheme refl (union_own ctx) (union_nothing ctx) body seen' old now' (i + 1) end
+        (variants-variant ctx union_scheme refl (union_own ctx) (union_nothing ctx) body seen old now i kind ordinal k h hk eq seen' now' m ho same ht hm known'
+        (subst (λ (fs : List (Found Span)). Adds now now' (member_found union_scheme m.tombstoned m.met false (view_at sheet i) ++ fs))
+        (ap (field_list_violations ctx) ends.0.0
+        ∙ ap (λ b. only_if b (field_list_violations ctx (front (λ r. not (starts_item r)) (view_of sheet (i + 1) body.range.end)))) (sym variant)) adds))
+        (ends.2 (omega arith)) ends.1 ends.3
 
-  pub enum-other :
-      (tombstones : ℕ) (seen : Seen) (marks : List ℕ) (s₀ s : State) (i k : ℕ) → EnumKnown tombstones seen marks s₀ s i → i < e →
-      k ≡ kind_in (record_bytes sheet i) → (k ≡ 14 → ⊥) → EnumKnown tombstones seen marks s₀ s (i + 1)
-  enum-other = variants-other ctx enum_scheme refl enum_own enum_nothing sheet a e
+pub union-end :
+    (body : WholeRecords) (seen : Seen) (old now : Violations) (i : ℕ) → UnionKnown body seen old now i → body.range.end ≤ i →
+    Adds old now (union_violations (context_in body.context) (records_in body.context body.range))
+unfolding union_violations
+union-end body seen old now i k h =
+    variants-end (context_in body.context) union_scheme refl (union_own (context_in body.context)) (union_nothing (context_in body.context)) body seen old now i k h
 
-  pub enum-variant :
-      (tombstones : ℕ) (seen : Seen) (marks ordinals' marks' : List ℕ) (s₀ s t : State) (i k ordinal : ℕ) (m : Meeting) →
-      EnumKnown tombstones seen marks s₀ s i → i < e → k ≡ kind_in (record_bytes sheet i) → k ≡ 14 →
-      ordinal ≡ value_in (record_bytes sheet i) → MetAt 14 15 sheet a e tombstones ordinals' marks' i ordinal m →
-      length t.0 ≡ length s.0 → t ≡ push_found (member_found enum_scheme m.tombstoned m.met false (view_at sheet i)) s →
-      EnumKnown tombstones (record { ordinals = ordinals'; len = m.len }) marks' s₀ t (i + 1)
-  enum-variant tombstones seen marks ordinals' marks' s₀ s t i k ordinal m known h hk eq ho hm size hs =
-      variants-variant ctx enum_scheme refl enum_own enum_nothing sheet a e tombstones seen marks ordinals' marks' s₀ s t i k ordinal m known h hk eq ho hm size
-      (hs ∙ ap (λ fs. push_found fs s) (sym (append-nil (member_found enum_scheme m.tombstoned m.met false (view_at sheet i)))))
-
-  pub enum-end :
-      (tombstones : ℕ) (seen : Seen) (marks : List ℕ) (s₀ s : State) (i : ℕ) → EnumKnown tombstones seen marks s₀ s i → e ≤ i →
-      s ≡ push_found (list_violations ctx enum_scheme (λ it. []) (body_items (view_of sheet a e))) s₀
-  enum-end = variants-end ctx enum_scheme refl enum_own enum_nothing sheet a e
-
-  -- a union's have fields
-  abbrev union_own : Item (Rec ℕ Span) → List (Found Span)
-  union_own it = only_if (is Kind.Variant it.head) (field_list_violations ctx it.rest)
-
-  pub union_nothing : (it : Item (Rec ℕ Span)) → is Kind.Variant it.head ≡ false → union_own it ≡ []
-  union_nothing it h = ap (λ b. only_if b (field_list_violations ctx it.rest)) h
-
-  abbrev pub UnionKnown : ℕ → Seen → List ℕ → State → State → ℕ → Type 0
-  UnionKnown = VariantsKnown ctx union_scheme refl union_own union_nothing sheet a e
-
-  pub union-none :
-      (tombstones : ℕ) (ordinals marks : List ℕ) (s : State) → a ≤ e → e ≤ 1024 →
-      (length ordinals ≡ 1024)
-      × (length marks ≡ 1021)
-      × (tombstones ≤ e - a)
-      × (latest ordinals 0 tombstones ≡ narrow (values_of 15 (view_of sheet a e)))
-      × Marked ordinals marks tombstones →
-      UnionKnown tombstones (record { ordinals = ordinals; len = tombstones }) marks s s a
-  union-none = variants-none ctx union_scheme refl union_own union_nothing sheet a e
-
-  pub union-other :
-      (tombstones : ℕ) (seen : Seen) (marks : List ℕ) (s₀ s : State) (i k : ℕ) → UnionKnown tombstones seen marks s₀ s i → i < e →
-      k ≡ kind_in (record_bytes sheet i) → (k ≡ 14 → ⊥) → UnionKnown tombstones seen marks s₀ s (i + 1)
-  union-other = variants-other ctx union_scheme refl union_own union_nothing sheet a e
-
-  -- the ordinal, and then the fields
-  pub variant_found_lem :
-      (i end : ℕ) (tombstoned met : Bool) (s t u : State) →
-      t ≡ push_ordinal (record { greatest = 65535; too_large = 43; reused = 42; duplicate = 42 }) sheet i tombstoned met s →
-      u ≡ push_found (field_list_violations ctx (view_of sheet (i + 1) end)) t → u ≡ push_found (variant_found table sheet i end tombstoned met) s
-  unfolding variant_found
-  variant_found_lem i end tombstoned met s t u ht hu = found-then _ _ s t u (union-members sheet i tombstoned met s t ht) hu
-
-  pub union-variant :
-      (tombstones : ℕ) (seen : Seen) (marks ordinals' marks' : List ℕ) (s₀ s t : State) (i k ordinal end : ℕ) (m : Meeting) →
-      UnionKnown tombstones seen marks s₀ s i → i < e → k ≡ kind_in (record_bytes sheet i) → k ≡ 14 →
-      ordinal ≡ value_in (record_bytes sheet i) → MetAt 14 15 sheet a e tombstones ordinals' marks' i ordinal m →
-      EndsAt (in_run Run.Item) sheet (i + 1) e end × (end ≤ e) × (i + 1 ≤ e → i + 1 ≤ end) × AllIn (in_run Run.Item) sheet (i + 1) end →
-      length t.0 ≡ length s.0 → t ≡ push_found (variant_found table sheet i end m.tombstoned m.met) s →
-      UnionKnown tombstones (record { ordinals = ordinals'; len = m.len }) marks' s₀ t end
-  unfolding variant_found EndsAt
-  union-variant tombstones seen marks ordinals' marks' s₀ s t i k ordinal end m known h hk eq ho hm ends size hs =
-      let behind : i + 1 ≤ end = ends.2 (omega arith) in
-      let last : i + 1 + (end - (i + 1)) ≡ end = omega arith in
-      rw last at
-      (variants-parts ctx union_scheme refl union_own union_nothing sheet a e tombstones (record { ordinals = ordinals'; len = m.len }) marks' s₀ t (i + 1) (end - (i + 1))
-      (variants-variant ctx union_scheme refl union_own union_nothing sheet a e tombstones seen marks ordinals' marks' s₀ s t i k ordinal m known h hk eq ho hm size
-      (hs
-      ∙ ap (λ rs. push_found (member_found union_scheme m.tombstoned m.met false (view_at sheet i) ++ field_list_violations ctx rs) s) ends.0.0
-      ∙ ap (λ b. push_found (member_found union_scheme m.tombstoned m.met false (view_at sheet i)
-      ++ only_if b (field_list_violations ctx (front (λ r. not (starts_item r)) (view_of sheet (i + 1) e)))) s)
-      (sym (kind-is sheet i k 14 hk eq))))
-      (omega (arith, ends.1)) (rw (sym last) at ends.3))
-
-  pub union-end :
-      (tombstones : ℕ) (seen : Seen) (marks : List ℕ) (s₀ s : State) (i : ℕ) → UnionKnown tombstones seen marks s₀ s i → e ≤ i →
-      s ≡ push_found (union_violations ctx (view_of sheet a e)) s₀
-  unfolding union_violations
-  union-end = variants-end ctx union_scheme refl union_own union_nothing sheet a e
+-- the ordinal, and then the fields
+pub variant-adds :
+    (body : WholeRecords) (i end : ℕ) (m : Meeting) (old mid now : Violations) → mid.list.ghost_name ≡ old.list.ghost_name →
+    state_of mid ≡ push_ordinal (record { greatest = 65535; too_large = 43; reused = 42; duplicate = 42 }) body.context.sheet.now i m.tombstoned m.met (state_of old) →
+    Adds mid now (field_list_violations (context_in body.context) (view_of body.context.sheet.now (i + 1) end)) →
+    Adds old now (variant_found (table_of body.context) body.context.sheet.now i end m.tombstoned m.met)
+unfolding variant_found
+variant-adds body i end m old mid now reference state fields =
+    adds_then old mid now _ _ (union-members body.context.sheet.now i m.tombstoned m.met old mid mid reference state) fields

@@ -1,8 +1,8 @@
 -- The records of a kind among those already passed.
-use Rattle.std.specs.Prelude.{ℕ, zero, suc, ◌+◌, ◌-◌, List, [], ◌∷◌, ◌++◌, map}
+use Rattle.std.specs.Prelude.{ℕ, zero, suc, ◌+◌, ◌-◌, Bool, ◌&&◌, eqb, List, [], ◌∷◌, ◌++◌, map}
 use Rattle.rules.specs.declared.span.Span.{Span}
 use Rattle.rules.specs.Words.{only_if, select}
-use Rattle.rules.specs.Record.{Rec, is}
+use Rattle.rules.specs.Record.{Rec, is, kind_in, value_in, record_bytes}
 use Rattle.names.specs.View.{view_at}
 
 -- the values of the records of a kind
@@ -17,3 +17,7 @@ earlier kind sheet a (suc n) = only_if (is kind (view_at sheet (a + n))) (view_a
 -- the values of those from a up to i
 abbrev pub values_before : ℕ → List ℕ → ℕ → ℕ → List ℕ
 values_before kind sheet a i = map (λ r. r.value) (earlier kind sheet a (i - a))
+
+-- record i is of the kind and has the value
+unfoldable pub has_value : ℕ → List ℕ → ℕ → ℕ → Bool
+has_value kind sheet value i = eqb (kind_in (record_bytes sheet i)) kind && eqb value (value_in (record_bytes sheet i))

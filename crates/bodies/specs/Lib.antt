@@ -1,8 +1,10 @@
 pub mod Backing
 pub mod Bit
 pub mod Earlier
+pub mod FieldNames
 pub mod Items
 pub mod Met
 pub mod Ordinal
+pub mod Parts
 pub mod Runs
 pub mod Seen

@@ -1,10 +1,9 @@
 -- The numbers already met, the latest first, and the marks beside them.
-use Rattle.std.specs.Prelude.{ℕ, zero, suc, ◌+◌, ◌-◌, ◌%◌, ◌≤◌, ◌<◌, ◌≡◌, true, List, [], ◌∷◌, length, get_or, leb}
-use Rattle.rules.specs.Words.{member, select}
-use Rattle.rules.specs.Record.{is, value_in, record_bytes}
+use Rattle.std.specs.Prelude.{ℕ, zero, suc, ◌+◌, ◌-◌, ◌%◌, ◌≤◌, ◌<◌, ◌≡◌, List, [], ◌∷◌, length, get_or, leb}
+use Rattle.rules.specs.Words.{select}
+use Rattle.rules.specs.Record.{is}
 use Rattle.rules.specs.Refusals.{max_ordinal}
-use Rattle.names.specs.View.{view_at, view_of}
-use Rattle.bodies.specs.declared.seen.Meeting.{Meeting}
+use Rattle.names.specs.View.{view_of}
 use Rattle.bodies.specs.Earlier.{values_of, values_before}
 
 -- n numbers of an array from place a on, the last of them first
@@ -45,14 +44,3 @@ module _ (kind tombstone : ℕ) (sheet : List ℕ) (a e tombstones : ℕ) (numbe
       × (latest numbers 0 tombstones ≡ narrow (values_of tombstone (view_of sheet a e)))
       × (latest numbers tombstones (len - tombstones) ≡ narrow (values_before kind sheet a i))
       × Marked numbers marks len
-
-  -- record i is an item, and its ordinal is to be met
-  abbrev pub ToMeet : ℕ → ℕ → ℕ → Type 0
-  ToMeet len i ordinal = (i < e) × (is kind (view_at sheet i) ≡ true) × (ordinal ≡ value_in (record_bytes sheet i)) × Known len i
-
-  -- it was met
-  abbrev pub MetAt : ℕ → ℕ → Meeting → Type 0
-  MetAt i ordinal m =
-      (m.tombstoned ≡ member ordinal (values_of tombstone (view_of sheet a e)))
-      × (m.met ≡ member ordinal (values_before kind sheet a i))
-      × Known m.len (i + 1)

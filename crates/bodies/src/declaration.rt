@@ -1,79 +1,64 @@
 // The declaration that a sheet holds.
-ghost use Rattle.std.specs.Prelude.{◌≡◌, List, ℕ, ◌*◌, ◌/◌, ◌≤◌, length, leb};
-ghost use Rattle.rules.specs.declared.answer.Counts.{Counts};
+ghost use Rattle.std.specs.Prelude.{◌/◌, length, leb};
 ghost use Rattle.rules.specs.Words.{only_if};
 ghost use Rattle.rules.specs.Record.{record_size};
 ghost use Rattle.rules.specs.Bodies.{body_violations, violations_of};
-ghost use Rattle.names.specs.View.{view_of, context_by};
-ghost use Rattle.diagnostic.specs.Push.{push_found};
+ghost use Rattle.names.specs.Known.{context_in, records_in};
+ghost use Rattle.names.specs.View.{view_of};
+ghost use Rattle.diagnostic.specs.Violations.{Adds};
 
 use crate::enums::check_enum;
 use crate::flags::check_flags;
 use crate::message::check_message;
 use crate::newtype::check_newtype;
-use crate::runs::{Run, run_end};
+use crate::runs::{is_before_head, run_end};
 use crate::unions::check_union;
-use rules::{Counts, Sheet};
+use crate::whole::WholeRecords;
+use diagnostic::Violations;
+use names::ValidationContext;
+use rules::{RecordRange, Sheet};
 
-// Adds what is wrong with the body at records `a` up to `e`, whose head has that sub.
-fn check_body(
-    sheet: &[u8],
-    table: &[u16; 5122],
-    list: &mut [u8],
-    counts: Counts,
-    sub: u8,
-    a: usize,
-    e: usize,
-) -> Counts
-    requires { (a ≤ e) × (e ≤ 1024) × (e * 32 ≤ length sheet.now) }
-    ensures { ◌≡◌ {A = List ℕ × Counts} (list.new, result) (push_found (body_violations (context_by table.now sheet.now) sub (view_of sheet.now a e)) (list.old, counts)) }
+// The subs of a head. Any other is a newtype's.
+const MESSAGE: u8 = 0;
+
+const ENUM: u8 = 1;
+
+const FLAGS: u8 = 2;
+
+const UNION: u8 = 3;
+
+// Adds what is wrong with the body, whose head has that sub.
+#[tactic(auto, unfolding(rules::specs::Bodies::body_violations))]
+fn check_body(body: WholeRecords, violations: &mut Violations, sub: u8)
+    ensures { Adds violations.old violations.new (body_violations (context_in body.entry.context) sub (records_in body.entry.context body.entry.range)) }
 {
     match sub {
-        0 => check_message(sheet, table, list, counts, a, e),
-        1 => check_enum(sheet, table, list, counts, a, e),
-        2 => check_flags(sheet, table, list, counts, a, e),
-        3 => check_union(sheet, table, list, counts, a, e),
-        _ => check_newtype(sheet, table, list, counts, a, e),
+        MESSAGE => check_message(body, violations),
+        ENUM => check_enum(body, violations),
+        FLAGS => check_flags(body, violations),
+        UNION => check_union(body, violations),
+        _ => check_newtype(body, violations),
     }
 }
 
-// Adds what is wrong with the declaration whose head is the first among the first `n` records.
-fn check_records(
-    sheet: &[u8],
-    table: &[u16; 5122],
-    list: &mut [u8],
-    counts: Counts,
-    n: usize,
-) -> Counts
-    requires { (n ≤ 1024) × (n * 32 ≤ length sheet.now) }
-    ensures { ◌≡◌ {A = List ℕ × Counts} (list.new, result) (push_found (violations_of (context_by table.now sheet.now) (view_of sheet.now 0 n)) (list.old, counts)) }
+// Adds what is wrong with the declaration that the sheet holds; nothing if the sheet is longer than row 1 allows.
+pub fn check_declaration(context: ValidationContext, violations: &mut Violations)
+    ensures { Adds violations.old violations.new (only_if (leb (length context.entry.sheet.now) 32768) (violations_of (context_in context.entry) (view_of context.entry.sheet.now 0 (length context.entry.sheet.now / record_size)))) }
 {
-    let head = run_end(sheet, Run::Front, 0, n);
-    if n <= head {
-        return counts;
+    if Sheet::MAX_LEN < context.sheet.len() {
+        return;
     }
-    check_body(
-        sheet,
-        table,
-        list,
-        counts,
-        sheet::sub(sheet, head),
-        head + 1,
-        n,
-    )
-}
-
-// Adds what is wrong with the declaration that the sheet holds, by that table of names; nothing if the sheet is longer than row 1 allows.
-pub fn check_declaration(
-    sheet: &[u8],
-    table: &[u16; 5122],
-    list: &mut [u8],
-    counts: Counts,
-) -> Counts
-    ensures { ◌≡◌ {A = List ℕ × Counts} (list.new, result) (push_found (only_if (leb (length sheet.now) 32768) (violations_of (context_by table.now sheet.now) (view_of sheet.now 0 (length sheet.now / record_size)))) (list.old, counts)) }
-{
-    if Sheet::MAX_LEN < sheet.len() {
-        return counts;
+    let records = WholeRecords {
+        context,
+        range: RecordRange {
+            start: 0,
+            end: sheet::records(context.sheet),
+        },
+    };
+    let head = run_end(records, is_before_head);
+    if records.range.end <= head {
+        return;
     }
-    check_records(sheet, table, list, counts, sheet::records(sheet))
+    let sub = sheet::sub(context.sheet, head);
+    check_body(records.from(head + 1), violations, sub);
 }

@@ -1,106 +1,40 @@
 // An enum: rules 31 to 33.
-ghost use Rattle.std.specs.Prelude.{◌≡◌, List, [], ℕ, ◌*◌, ◌≤◌, length, false, ltb};
-ghost use Rattle.rules.specs.declared.answer.Counts.{Counts};
+ghost use Rattle.std.specs.Prelude.{◌≡◌, [], ltb};
 ghost use Rattle.rules.specs.Words.{any_of};
-ghost use Rattle.rules.specs.Record.{value_in, record_bytes};
 ghost use Rattle.rules.specs.Bodies.{backing_max, enum_scheme, body_items, slots, used_ordinals, list_violations, enum_violations};
-ghost use Rattle.names.specs.View.{view_at, view_of, context_by};
-ghost use Rattle.diagnostic.specs.Push.{push_found};
-ghost use Rattle.bodies.specs.Ordinal.{member_found};
+ghost use Rattle.names.specs.View.{view_at, view_of};
+ghost use Rattle.names.specs.Known.{context_in, records_in};
+ghost use Rattle.diagnostic.specs.Violations.{Adds};
 ghost use Rattle.bodies.specs.Backing.{narrow_found, backings_from};
 
-use crate::ordinal::{OrdinalRules, check_ordinal};
-use crate::seen::{Seen, collect, meet};
-use crate::whole::{kind_at, ordinal_at};
-use rules::{Counts, Sheet, Violation};
+use crate::ordinal::OrdinalRules;
+use crate::seen::{ItemList, Seen};
+use crate::whole::WholeRecords;
+use diagnostic::Violations;
+use rules::{RecordRange, Violation};
 use sheet::kinds;
 
-// Adds what is wrong with the ordinal of the variant at record `i`: rules 31 and 32.
-fn check_variant(
-    sheet: &[u8],
-    list: &mut [u8],
-    counts: Counts,
-    i: usize,
-    ordinal: u64,
-    tombstoned: bool,
-    met: bool,
-) -> Counts
-    requires { ordinal ≡ value_in (record_bytes sheet.now i) }
-    ensures { ◌≡◌ {A = List ℕ × Counts} (list.new, result) (push_found (member_found enum_scheme tombstoned met false (view_at sheet.now i)) (list.old, counts)) }
+// Adds what is wrong with the variants of the body: rules 31 and 32.
+fn check_variants(body: WholeRecords, violations: &mut Violations)
+    ensures { Adds violations.old violations.new (list_violations (context_in body.entry.context) enum_scheme (λ it. []) (body_items (records_in body.entry.context body.entry.range))) }
 {
-    let rules = OrdinalRules {
-        greatest: Sheet::MAX_FIELD_ORDINAL,
-        too_large: Violation::EnumOrdinalTooLarge,
-        reused: Violation::EnumOrdinalDuplicate,
-        duplicate: Violation::EnumOrdinalDuplicate,
-    };
-    check_ordinal(sheet, list, counts, i, ordinal, rules, tombstoned, met)
-}
-
-// Adds what is wrong with the variants at records `a` up to `e`.
-fn check_variants(
-    sheet: &[u8],
-    table: &[u16; 5122],
-    list: &mut [u8],
-    counts: Counts,
-    a: usize,
-    e: usize,
-) -> Counts
-    requires { (a ≤ e) × (e ≤ 1024) × (e * 32 ≤ length sheet.now) }
-    ensures { ◌≡◌ {A = List ℕ × Counts} (list.new, result) (push_found (list_violations (context_by table.now sheet.now) enum_scheme (λ it. []) (body_items (view_of sheet.now a e))) (list.old, counts)) }
-{
-    let mut seen = Seen {
-        ordinals: [0; 1024],
-        len: 0,
-    };
-    let mut marks: [u8; 1021] = [0; 1021];
-    let tombstones = collect(
-        sheet,
-        &mut seen.ordinals,
-        &mut marks,
-        kinds::TOMBSTONE,
-        a,
-        e,
-    );
-    seen.len = tombstones;
-    let mut counts = counts;
-    let mut i = a;
-    while i < e {
-        if kind_at(sheet, i) != kinds::VARIANT {
-            i += 1;
+    let mut seen = Seen::of(ItemList {
+        records: body,
+        item: kinds::VARIANT,
+        tombstone: kinds::TOMBSTONE,
+    });
+    for i in body.range.start..body.range.end {
+        if body.kind(i) != kinds::VARIANT {
             continue;
         }
-        let ordinal = ordinal_at(sheet, i);
-        let at = seen.len;
-        let meeting = meet(
-            sheet,
-            &mut seen.ordinals,
-            &mut marks,
-            kinds::VARIANT,
-            kinds::TOMBSTONE,
-            a,
-            e,
-            i,
-            tombstones,
-            at,
-            ordinal,
-        );
-        seen.len = meeting.len;
-        counts = check_variant(
-            sheet,
-            list,
-            counts,
-            i,
-            ordinal,
-            meeting.tombstoned,
-            meeting.met,
-        );
-        i += 1;
+        let ordinal = body.ordinal(i);
+        let meeting = seen.meet(i, ordinal);
+        OrdinalRules::ENUM.check(body.context.sheet, violations, i, ordinal, meeting);
     }
-    counts
 }
 
 // The greatest ordinal that a backing of that sub holds.
+#[tactic(auto, unfolding(rules::specs::Words::look_up))]
 fn backing_max(sub: u8) -> u64
     ensures { result ≡ backing_max sub }
 {
@@ -113,64 +47,44 @@ fn backing_max(sub: u8) -> u64
     }
 }
 
-// Whether a variant at records `a` up to `e` has an ordinal over `max`.
-fn is_narrow(sheet: &[u8], a: usize, e: usize, max: u64) -> bool
-    ensures { result ≡ any_of (ltb max) (used_ordinals (slots (body_items (view_of sheet.now a e)))) }
+// Whether a variant of the body has an ordinal over `max`.
+#[tactic(auto, using(crate::proofs::Backings::over_here, crate::proofs::Backings::over_later, crate::proofs::Backings::over_none))]
+fn is_narrow(sheet: &[u8], body: RecordRange, max: u64) -> bool
+    ensures { result ≡ any_of (ltb max) (used_ordinals (slots (body_items (view_of sheet.now body.start body.end)))) }
 {
-    let mut i = a;
-    while i < e {
+    for i in body.start..body.end {
         if (sheet::kind(sheet, i) == kinds::VARIANT) & (max < sheet::value(sheet, i)) {
             return true;
         }
-        i += 1;
     }
     false
 }
 
-// Adds rule 33, if record `i` is a backing too narrow for the variants at records `a` up to `e`.
-fn check_backing(
-    sheet: &[u8],
-    list: &mut [u8],
-    counts: Counts,
-    i: usize,
-    a: usize,
-    e: usize,
-) -> Counts
-    ensures { ◌≡◌ {A = List ℕ × Counts} (list.new, result) (push_found (narrow_found (view_of sheet.now a e) (view_at sheet.now i)) (list.old, counts)) }
+// Adds rule 33, if record `i` is a backing too narrow for the variants of the body.
+fn check_backing(sheet: &[u8], violations: &mut Violations, i: usize, body: RecordRange)
+    ensures { Adds violations.old violations.new (narrow_found (view_of sheet.now body.start body.end) (view_at sheet.now i)) }
 {
     if sheet::kind(sheet, i) != kinds::BACKING {
-        return counts;
+        return;
     }
-    let bad = is_narrow(sheet, a, e, backing_max(sheet::sub(sheet, i)));
-    let violation = Violation::error(sheet::span(sheet, i), Violation::EnumBackingTooNarrow);
-    diagnostic::push_if(list, counts, bad, violation)
+    let bad = is_narrow(sheet, body, backing_max(sheet::sub(sheet, i)));
+    violations.error_if(bad, sheet, i, Violation::EnumBackingTooNarrow);
 }
 
-// Adds rule 33 for the enum at records `a` up to `e`.
-fn check_backings(sheet: &[u8], list: &mut [u8], counts: Counts, a: usize, e: usize) -> Counts
-    ensures { ◌≡◌ {A = List ℕ × Counts} (list.new, result) (push_found (backings_from (view_of sheet.now a e) (view_of sheet.now a e)) (list.old, counts)) }
+// Adds rule 33 for the enum.
+#[tactic(auto, using(crate::proofs::Backings::backings_none, crate::proofs::Backings::backings_next, crate::proofs::Backings::backings_end))]
+fn check_backings(sheet: &[u8], violations: &mut Violations, body: RecordRange)
+    ensures { Adds violations.old violations.new (backings_from (view_of sheet.now body.start body.end) (view_of sheet.now body.start body.end)) }
 {
-    let mut counts = counts;
-    let mut i = a;
-    while i < e {
-        counts = check_backing(sheet, list, counts, i, a, e);
-        i += 1;
+    for i in body.start..body.end {
+        check_backing(sheet, violations, i, body);
     }
-    counts
 }
 
-// Adds what is wrong with the enum at records `a` up to `e`.
-pub fn check_enum(
-    sheet: &[u8],
-    table: &[u16; 5122],
-    list: &mut [u8],
-    counts: Counts,
-    a: usize,
-    e: usize,
-) -> Counts
-    requires { (a ≤ e) × (e ≤ 1024) × (e * 32 ≤ length sheet.now) }
-    ensures { ◌≡◌ {A = List ℕ × Counts} (list.new, result) (push_found (enum_violations (context_by table.now sheet.now) (view_of sheet.now a e)) (list.old, counts)) }
+// Adds what is wrong with the enum.
+pub fn check_enum(body: WholeRecords, violations: &mut Violations)
+    ensures { Adds violations.old violations.new (enum_violations (context_in body.entry.context) (records_in body.entry.context body.entry.range)) }
 {
-    let counts = check_variants(sheet, table, list, counts, a, e);
-    check_backings(sheet, list, counts, a, e)
+    check_variants(body, violations);
+    check_backings(body.context.sheet, violations, body.range);
 }

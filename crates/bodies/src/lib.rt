@@ -3,11 +3,9 @@
 
 mod declaration;
 mod enums;
-mod errors;
 mod field;
 mod flags;
 mod message;
-mod met;
 mod newtype;
 mod ordinal;
 mod runs;

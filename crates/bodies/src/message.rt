@@ -1,192 +1,118 @@
 // A field list: rules 1 to 30.
-ghost use Rattle.std.specs.Prelude.{◌≡◌, List, ℕ, ◌*◌, ◌≤◌, length};
-ghost use Rattle.rules.specs.declared.answer.Counts.{Counts};
+ghost use Rattle.std.specs.Prelude.{◌≡◌, ◌≤◌};
 ghost use Rattle.rules.specs.Kind;
 ghost use Rattle.rules.specs.Record.{is, value_in, record_bytes};
 ghost use Rattle.rules.specs.Rule.{found_if};
 ghost use Rattle.rules.specs.Bodies.{field_scheme, field_violations, field_list_violations};
-ghost use Rattle.names.specs.View.{view_at, view_of, context_by};
-ghost use Rattle.diagnostic.specs.Push.{push_found};
-ghost use Rattle.annotations.specs.Slots.{Ready};
+ghost use Rattle.names.specs.Known.{context_in, records_in};
+ghost use Rattle.names.specs.View.{view_at, view_of};
+ghost use Rattle.diagnostic.specs.Violations.{Adds};
 ghost use Rattle.bodies.specs.Ordinal.{member_found};
-ghost use Rattle.bodies.specs.declared.runs.Run.TheVariants.{FieldItem};
-ghost use Rattle.bodies.specs.Runs.{in_run, EndsAt, AllIn};
+ghost use Rattle.bodies.specs.Runs.{in_field, RunTo};
+ghost use Rattle.bodies.specs.FieldNames.{AreOfFields};
 
-use crate::errors::error_if;
 use crate::field::{check_bare, check_field, field_parts, is_bare};
-use crate::met::meet_name;
-use crate::ordinal::{OrdinalRules, tell_ordinal};
-use crate::seen::{Seen, collect, meet};
-use crate::whole::{kind_at, ordinal_at};
-use rules::{Counts, Sheet, Violation};
+use crate::ordinal::OrdinalRules;
+use crate::seen::{ItemList, Meeting, Seen};
+use crate::whole::WholeRecords;
+use annotations::MetNames;
+use diagnostic::Violations;
+use rules::{Sheet, Violation};
 use sheet::kinds;
 
 // Adds rule 1, if record `i` is an invariant.
-fn check_invariant(sheet: &[u8], list: &mut [u8], counts: Counts, i: usize) -> Counts
-    ensures { ◌≡◌ {A = List ℕ × Counts} (list.new, result) (push_found (found_if 1 (is Kind.Invariant (view_at sheet.now i)) (view_at sheet.now i).place) (list.old, counts)) }
+fn check_invariant(sheet: &[u8], violations: &mut Violations, i: usize)
+    ensures { Adds violations.old violations.new (found_if 1 (is Kind.Invariant (view_at sheet.now i)) (view_at sheet.now i).place) }
 {
     let bad = sheet::kind(sheet, i) == kinds::INVARIANT;
-    error_if(
-        list,
-        counts,
-        bad,
-        sheet::span(sheet, i),
-        Violation::InvariantUnsupported,
-    )
-}
-
-// The rules of a field's ordinal.
-pub fn field_rules() -> OrdinalRules
-    ensures { result ≡ record { greatest = 65535; too_large = 15; reused = 16; duplicate = 14 } }
-{
-    OrdinalRules {
-        greatest: Sheet::MAX_FIELD_ORDINAL,
-        too_large: Violation::OrdinalTooLarge,
-        reused: Violation::OrdinalReusedAfterRemoved,
-        duplicate: Violation::OrdinalDuplicate,
-    }
+    violations.error_if(bad, sheet, i, Violation::InvariantUnsupported);
 }
 
 // Adds what is wrong with the ordinal and the name of the field at record `i`: rules 2 to 5.
-fn check_ordinal_and_name(
+pub fn check_ordinal_and_name(
     sheet: &[u8],
-    list: &mut [u8],
-    counts: Counts,
+    violations: &mut Violations,
     i: usize,
     ordinal: u64,
-    tombstoned: bool,
-    met: bool,
+    meeting: Meeting,
     renamed: bool,
-) -> Counts
+)
     requires { ordinal ≡ value_in (record_bytes sheet.now i) }
-    ensures { ◌≡◌ {A = List ℕ × Counts} (list.new, result) (push_found (member_found field_scheme tombstoned met renamed (view_at sheet.now i)) (list.old, counts)) }
+    ensures { Adds violations.old violations.new (member_found field_scheme meeting.tombstoned meeting.met renamed (view_at sheet.now i)) }
 {
-    if !tombstoned & !met & !renamed & (ordinal <= Sheet::MAX_FIELD_ORDINAL) {
-        return counts;
+    let fine = !meeting.tombstoned
+        & !meeting.met
+        & !renamed
+        & (ordinal <= Sheet::MAX_FIELD_ORDINAL);
+    if fine {
+        return;
     }
-    let counts = tell_ordinal(sheet, list, counts, i, field_rules(), tombstoned, met);
-    error_if(
-        list,
-        counts,
-        renamed,
-        sheet::span(sheet, i),
-        Violation::FieldNameDuplicate,
-    )
+    OrdinalRules::FIELD.tell(sheet, violations, i, meeting);
+    violations.error_if(renamed, sheet, i, Violation::FieldNameDuplicate);
 }
 
-// The counts after a field, and where its parts end.
-#[derive(Clone, Copy)]
-pub struct Passed {
-    pub counts: Counts,
-    pub end: usize,
-}
-
-// Adds what is wrong with the parts of a field, whose first stands at record `a`, if there is one, before record `e`.
-pub fn check_parts(
-    sheet: &[u8],
-    table: &[u16; 5122],
-    list: &mut [u8],
-    counts: Counts,
-    a: usize,
-    e: usize,
-) -> Passed
-    requires { (a ≤ e) × (e * 32 ≤ length sheet.now) }
-    ensures { ◌≡◌ {A = List ℕ × Counts} (list.new, result.counts) (push_found (field_violations (context_by table.now sheet.now) (view_of sheet.now a result.end)) (list.old, counts)) × (EndsAt (in_run FieldItem) sheet.now a e result.end × (result.end ≤ e) × (a ≤ e → a ≤ result.end) × AllIn (in_run FieldItem) sheet.now a result.end) }
+// Adds what is wrong with the parts of the field that the records start with, which is not bare, and returns where they end.
+fn check_all_parts(rest: WholeRecords, violations: &mut Violations) -> usize
+    ensures found { Adds violations.old violations.new (field_violations (context_in rest.entry.context) (view_of rest.entry.context.sheet.now rest.entry.range.start result)) }
+    ensures end { RunTo in_field rest.entry.context.sheet.now rest.entry.range.start rest.entry.range.end result }
 {
-    let parts = field_parts(sheet, a, e);
-    let counts = check_field(sheet, table, list, counts, a, parts);
-    let end = parts.end;
-    Passed { counts, end }
+    let parts = field_parts(rest);
+    check_field(rest.context, violations, parts);
+    parts.condition.end
 }
 
-// Adds what is wrong with the field list at records `a` up to `e`, by the slots of names lent for it.
-pub fn check_message_body(
-    sheet: &[u8],
-    table: &[u16; 5122],
-    list: &mut [u8],
-    counts: Counts,
-    names: &mut [u16; 1024],
-    a: usize,
-    e: usize,
-) -> Counts
-    requires { (a ≤ e) × (e ≤ 1024) × Ready names.old a × (e * 32 ≤ length sheet.now) }
-    ensures { ◌≡◌ {A = List ℕ × Counts} (list.new, result) (push_found (field_list_violations (context_by table.now sheet.now) (view_of sheet.now a e)) (list.old, counts)) × Ready names.new e }
+// Adds what is wrong with the parts of the field that the records start with, if it has any, and returns where they end. Those of a bare field are told
+// without a call.
+pub fn check_parts(rest: WholeRecords, violations: &mut Violations) -> usize
+    ensures found { Adds violations.old violations.new (field_violations (context_in rest.entry.context) (view_of rest.entry.context.sheet.now rest.entry.range.start result)) }
+    ensures end { RunTo in_field rest.entry.context.sheet.now rest.entry.range.start rest.entry.range.end result }
 {
-    let mut seen = Seen {
-        ordinals: [0; 1024],
-        len: 0,
-    };
-    let mut marks: [u8; 1021] = [0; 1021];
-    let tombstones = collect(
-        sheet,
-        &mut seen.ordinals,
-        &mut marks,
-        kinds::FIELD_TOMBSTONE,
-        a,
-        e,
-    );
-    seen.len = tombstones;
-    let mut counts = counts;
-    let mut i = a;
-    while i < e {
-        if kind_at(sheet, i) != kinds::FIELD {
-            counts = check_invariant(sheet, list, counts, i);
+    if is_bare(rest) {
+        check_bare(rest, violations);
+        return rest.range.start + 1;
+    }
+    check_all_parts(rest, violations)
+}
+
+// Adds what is wrong with the field list, by the names lent for it.
+pub fn check_message_body(fields: WholeRecords, violations: &mut Violations, names: &mut MetNames)
+    requires { AreOfFields fields.context names.old }
+    ensures found { Adds violations.old violations.new (field_list_violations (context_in fields.entry.context) (records_in fields.entry.context fields.entry.range)) }
+    ensures names { AreOfFields fields.entry.context names.new }
+{
+    names.restart(fields.range.start);
+    let mut seen = Seen::of(ItemList {
+        records: fields,
+        item: kinds::FIELD,
+        tombstone: kinds::FIELD_TOMBSTONE,
+    });
+    let mut i = fields.range.start;
+    // a `for` cannot step by what it reads
+    while i < fields.range.end {
+        if fields.kind(i) != kinds::FIELD {
+            check_invariant(fields.context.sheet, violations, i);
             i += 1;
             continue;
         }
-        let ordinal = ordinal_at(sheet, i);
-        let at = seen.len;
-        let meeting = meet(
-            sheet,
-            &mut seen.ordinals,
-            &mut marks,
-            kinds::FIELD,
-            kinds::FIELD_TOMBSTONE,
-            a,
-            e,
-            i,
-            tombstones,
-            at,
-            ordinal,
-        );
-        seen.len = meeting.len;
-        let renamed = meet_name(sheet, table, names, kinds::FIELD, a, i);
-        counts = check_ordinal_and_name(
-            sheet,
-            list,
-            counts,
+        let ordinal = fields.ordinal(i);
+        let meeting = seen.meet(i, ordinal);
+        let renamed = names.is_met(i);
+        check_ordinal_and_name(
+            fields.context.sheet,
+            violations,
             i,
             ordinal,
-            meeting.tombstoned,
-            meeting.met,
+            meeting,
             renamed,
         );
-        // a bare field is told here; for the others, and from unions, the parts are checked by a call
-        let first = i + 1;
-        if is_bare(sheet, first, e) {
-            counts = check_bare(sheet, table, list, counts, first);
-            i = first + 1;
-            continue;
-        }
-        let passed = check_parts(sheet, table, list, counts, first, e);
-        counts = passed.counts;
-        i = passed.end;
+        i = check_parts(fields.from(i + 1), violations);
     }
-    counts
 }
 
-// Adds what is wrong with the message whose body stands at records `a` up to `e`.
-pub fn check_message(
-    sheet: &[u8],
-    table: &[u16; 5122],
-    list: &mut [u8],
-    counts: Counts,
-    a: usize,
-    e: usize,
-) -> Counts
-    requires { (a ≤ e) × (e ≤ 1024) × (e * 32 ≤ length sheet.now) }
-    ensures { ◌≡◌ {A = List ℕ × Counts} (list.new, result) (push_found (field_list_violations (context_by table.now sheet.now) (view_of sheet.now a e)) (list.old, counts)) }
+// Adds what is wrong with the message.
+pub fn check_message(body: WholeRecords, violations: &mut Violations)
+    ensures { Adds violations.old violations.new (field_list_violations (context_in body.entry.context) (records_in body.entry.context body.entry.range)) }
 {
-    let mut names: [u16; 1024] = [0; 1024];
-    check_message_body(sheet, table, list, counts, &mut names, a, e)
+    let mut names = MetNames::new(body.context, kinds::FIELD, body.range.start);
+    check_message_body(body, violations, &mut names);
 }

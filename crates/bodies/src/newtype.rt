@@ -1,41 +1,32 @@
 // A newtype: rules 37 and 38.
-ghost use Rattle.std.specs.Prelude.{◌≡◌, List, ℕ};
-ghost use Rattle.rules.specs.declared.answer.Counts.{Counts};
 ghost use Rattle.rules.specs.Bodies.{newtype_violations};
-ghost use Rattle.names.specs.View.{view_of, context_by};
-ghost use Rattle.diagnostic.specs.Push.{push_found};
+ghost use Rattle.names.specs.Known.{context_in, records_in};
+ghost use Rattle.diagnostic.specs.Violations.{Adds};
 
-use rules::{Counts, Violation};
+use crate::whole::WholeRecords;
+use diagnostic::Violations;
+use rules::Violation;
 use sheet::kinds;
 
-// Adds what is wrong with the newtype whose inner type stands at records `a` up to `e`.
-pub fn check_newtype(
-    sheet: &[u8],
-    table: &[u16; 5122],
-    list: &mut [u8],
-    counts: Counts,
-    a: usize,
-    e: usize,
-) -> Counts
-    ensures { ◌≡◌ {A = List ℕ × Counts} (list.new, result) (push_found (newtype_violations (context_by table.now sheet.now) (view_of sheet.now a e)) (list.old, counts)) }
+// The subs of the declarations over which no newtype may stand.
+const NEWTYPE: u8 = 4;
+
+const CONFIG: u8 = 5;
+
+// Adds what is wrong with the newtype whose inner type the records start with.
+pub fn check_newtype(body: WholeRecords, violations: &mut Violations)
+    ensures { Adds violations.old violations.new (newtype_violations (context_in body.entry.context) (records_in body.entry.context body.entry.range)) }
 {
-    if e <= a {
-        return counts;
+    if body.range.is_empty() {
+        return;
     }
-    let named = sheet::kind(sheet, a) == kinds::NAMED;
-    let span = sheet::span(sheet, a);
-    let newtype = named & types::is_declared_as(sheet, table, 4, a);
-    let config = named & types::is_declared_as(sheet, table, 5, a);
-    let counts = diagnostic::push_if(
-        list,
-        counts,
-        newtype,
-        Violation::error(span, Violation::NewtypeOverNewtype),
-    );
-    diagnostic::push_if(
-        list,
-        counts,
-        config,
-        Violation::error(span, Violation::NewtypeOverConfig),
-    )
+    let context = body.context;
+    let inner = body.range.start;
+    let named = sheet::kind(context.sheet, inner) == kinds::NAMED;
+    // rule 37
+    let newtype = named & types::is_declared_as(context, NEWTYPE, inner);
+    violations.error_if(newtype, context.sheet, inner, Violation::NewtypeOverNewtype);
+    // rule 38
+    let config = named & types::is_declared_as(context, CONFIG, inner);
+    violations.error_if(config, context.sheet, inner, Violation::NewtypeOverConfig);
 }

@@ -1,126 +1,98 @@
 // Where a run of records ends.
-ghost use Rattle.std.specs.Prelude.{◌≡◌, true, ◌+◌, ◌*◌, ◌≤◌, length};
-ghost use Rattle.names.specs.View.{view_at};
+ghost use Rattle.std.specs.Prelude.{◌≡◌, ℕ, Bool, true, not, nat_eq, ◌||◌, ◌+◌, ◌*◌, ◌≤◌, length};
+ghost use Rattle.rules.specs.Words.{within};
 ghost use Rattle.rules.specs.Kind;
 ghost use Rattle.rules.specs.Record.{is};
 ghost use Rattle.rules.specs.Bodies.{in_type};
-ghost use Rattle.bodies.specs.declared.runs.Run.TheVariants.{Optionals};
-ghost use Rattle.bodies.specs.Runs.{in_run, EndsAt, AllIn};
+ghost use Rattle.bodies.specs.Runs.{RunTo, AllIn};
 
-use crate::whole::kind_at;
-use rules::Sheet;
+use crate::whole::WholeRecords;
 use sheet::kinds;
 
-// The records before the head, of a field's annotations, of optionals, of types, of bit names, of an item of a field list after its first, of an item of
-// another body after its first.
-#[derive(Clone, Copy)]
-pub enum Run {
-    Front,
-    Annotations,
-    Optionals,
-    Types,
-    BitNames,
-    FieldItem,
-    Item,
+// Whether the kind is one of a record before the head.
+pub fn is_before_head(kind: u8) -> bool
+    ensures { result ≡ not (nat_eq kind Kind.Head) }
+{
+    kind != kinds::HEAD
 }
 
-// Whether record `i`, which is whole, is one of the run.
-fn is_in(sheet: &[u8], run: Run, i: usize) -> bool
-    requires { (i + 1) * 32 ≤ length sheet.now }
-    ensures { result ≡ in_run run (view_at sheet.now i) }
+// Whether the kind is one of a field's annotations.
+pub fn is_annotation(kind: u8) -> bool
+    ensures { result ≡ within Kind.Annotation Kind.Argument kind }
 {
-    let kind = kind_at(sheet, i);
-    match run {
-        Run::Front => kind != kinds::HEAD,
-        Run::Annotations => (kinds::ANNOTATION <= kind) & (kind <= kinds::ARGUMENT),
-        Run::Optionals => kind == kinds::OPTIONAL,
-        Run::Types => sheet::is_type(kind),
-        Run::BitNames => kind == kinds::BIT_NAME,
-        Run::FieldItem => (kind < kinds::FIELD) | (kinds::INVARIANT < kind),
-        Run::Item => (kind < kinds::VARIANT) | (kinds::TOMBSTONE < kind),
-    }
+    (kinds::ANNOTATION <= kind) & (kind <= kinds::ARGUMENT)
 }
 
-// The first record from `a` up to `e` that is not of the run. The records up to `e` are whole, here and below.
-pub fn run_end(sheet: &[u8], run: Run, a: usize, e: usize) -> usize
-    requires { e * 32 ≤ length sheet.now }
-    ensures { EndsAt (in_run run) sheet.now a e result × (result ≤ e) × (a ≤ e → a ≤ result) × AllIn (in_run run) sheet.now a result }
+// Whether the kind is one of a field's type: that of a type, or of a bit name among them.
+fn is_type_part(kind: u8) -> bool
+    ensures { result ≡ (nat_eq kind Kind.BitName || Kind.is_type kind) }
 {
-    let mut i = a;
-    while i < e {
-        if !is_in(sheet, run, i) {
+    (kind == kinds::BIT_NAME) | sheet::is_type(kind)
+}
+
+// Whether the kind is one of a field's parts: no item of a field list starts with it.
+#[tactic(auto, using(crate::proofs::RunEnds::outside))]
+pub fn is_field_part(kind: u8) -> bool
+    ensures { result ≡ not (within Kind.Field Kind.Invariant kind) }
+{
+    (kind < kinds::FIELD) | (kinds::INVARIANT < kind)
+}
+
+// Whether the kind is one of the parts of a variant: no item of a body starts with it.
+#[tactic(auto, using(crate::proofs::RunEnds::outside))]
+pub fn is_variant_part(kind: u8) -> bool
+    ensures { result ≡ not (within Kind.Variant Kind.Tombstone kind) }
+{
+    (kind < kinds::VARIANT) | (kinds::TOMBSTONE < kind)
+}
+
+// The first of the records whose kind is not of the run, or their end.
+pub fn run_end<F: Fn(u8) -> bool>(records: WholeRecords, is_in: F) -> usize
+    requires { F.IsAlwaysCallable is_in }
+    ensures inside { (records.entry.range.start ≤ result) × (result ≤ records.entry.range.end) }
+    ensures run { (p : ℕ → Bool) → ((kind : ℕ) (r : Bool) → F.post is_in kind r → r ≡ p kind) → RunTo (λ t. p t.kind) records.entry.context.sheet.now records.entry.range.start records.entry.range.end result }
+{
+    for i in records.range.start..records.range.end {
+        if !is_in(records.kind(i)) {
             return i;
         }
-        i += 1;
     }
-    e
+    records.range.end
 }
 
-// Whether the four records from `i` on are optionals, by the first byte of each.
-fn are_optionals(sheet: &[u8], i: usize) -> bool
-    requires { (i + 4) * 32 ≤ length sheet.now }
-    ensures { result ≡ true → AllIn (is Kind.Optional) sheet.now i (i + 4) }
+// Whether the four records from `i` on are optionals.
+fn are_optionals(records: WholeRecords, i: usize) -> bool
+    requires { i + 4 ≤ records.range.end }
+    ensures { result ≡ true → AllIn (is Kind.Optional) records.entry.context.sheet.now i (i + 4) }
 {
-    let first = i * Sheet::RECORD;
-    if sheet[first] != kinds::OPTIONAL {
-        return false;
-    }
-    let second = first + Sheet::RECORD;
-    if sheet[second] != kinds::OPTIONAL {
-        return false;
-    }
-    let third = second + Sheet::RECORD;
-    if sheet[third] != kinds::OPTIONAL {
-        return false;
-    }
-    let fourth = third + Sheet::RECORD;
-    sheet[fourth] == kinds::OPTIONAL
+    (i..i + 4).all(|j| records.kind(j) == kinds::OPTIONAL)
 }
 
-// A record from `a` up to `e` before which all are optionals, found by fours.
-fn fours_end(sheet: &[u8], a: usize, e: usize) -> usize
-    requires { (a ≤ e) × (e * 32 ≤ length sheet.now) }
-    ensures { (a ≤ result) × (result ≤ e) × AllIn (is Kind.Optional) sheet.now a result }
+// A record before which all are optionals, found by fours.
+fn fours_end(records: WholeRecords) -> usize
+    ensures { (records.entry.range.start ≤ result) × (result ≤ records.entry.range.end) × AllIn (is Kind.Optional) records.entry.context.sheet.now records.entry.range.start result }
 {
-    let mut left = e - a;
-    let mut i = a;
-    while 4 <= left {
-        if !are_optionals(sheet, i) {
+    let mut i = records.range.start;
+    while i + 4 <= records.range.end {
+        if !are_optionals(records, i) {
             return i;
         }
         i += 4;
-        left -= 4;
     }
     i
 }
 
-// The first record from `a` up to `e` that is no optional.
-pub fn optionals_end(sheet: &[u8], a: usize, e: usize) -> usize
-    requires { (a ≤ e) × (e * 32 ≤ length sheet.now) }
-    ensures { EndsAt (in_run Optionals) sheet.now a e result × (result ≤ e) × (a ≤ e → a ≤ result) × AllIn (in_run Optionals) sheet.now a result }
+// The first of the records that is no optional, or their end.
+pub fn optionals_end(records: WholeRecords) -> usize
+    ensures { RunTo (is Kind.Optional) records.entry.context.sheet.now records.entry.range.start records.entry.range.end result }
 {
-    if e <= a {
-        return a;
-    }
-    if !is_in(sheet, Run::Optionals, a) {
-        return a;
-    }
-    run_end(sheet, Run::Optionals, fours_end(sheet, a, e), e)
+    let others = records.from(fours_end(records));
+    run_end(others, |kind| kind == kinds::OPTIONAL)
 }
 
-// The first record from `a` up to `e` that is not of a field's type: types, and bit names among them.
-pub fn type_end(sheet: &[u8], a: usize, e: usize) -> usize
-    requires { e * 32 ≤ length sheet.now }
-    ensures { EndsAt in_type sheet.now a e result × (result ≤ e) × (a ≤ e → a ≤ result) × AllIn in_type sheet.now a result }
+// The first of the records that is not of a field's type, or their end: types are, and bit names among them.
+pub fn type_end(records: WholeRecords) -> usize
+    ensures { RunTo in_type records.entry.context.sheet.now records.entry.range.start records.entry.range.end result }
 {
-    let mut i = a;
-    while i < e {
-        let names = run_end(sheet, Run::Types, i, e);
-        let end = run_end(sheet, Run::BitNames, names, e);
-        if end == names {
-            return end;
-        }
-        i = end;
-    }
-    e
+    run_end(records, is_type_part)
 }

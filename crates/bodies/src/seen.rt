@@ -1,19 +1,39 @@
 // The ordinals already met in a list.
-ghost use Rattle.std.specs.Prelude.{◌≡◌, ◌-◌, ◌*◌, ◌%◌, ◌≤◌, ◌<◌, length};
+ghost use Rattle.std.specs.Prelude.{◌≡◌, ◌≢◌, ◌+◌, ◌%◌, ◌≤◌, ◌<◌, length, true, false, ℕ, slice_set};
 ghost use Rattle.rules.specs.Words.{member};
-ghost use Rattle.names.specs.View.{view_of};
-ghost use Rattle.bodies.specs.Earlier.{values_of, values_before};
-ghost use Rattle.bodies.specs.Seen.{latest, narrow, Marked, Kept, ToMeet, MetAt};
+ghost use Rattle.rules.specs.Record.{is, value_in, record_bytes};
+ghost use Rattle.names.specs.View.{view_at, view_of};
+ghost use Rattle.bodies.specs.Earlier.{has_value, values_of, values_before};
+ghost use Rattle.bodies.specs.Seen.{latest};
+ghost use Rattle.bodies.specs.Met.{sheet_of, start_of, end_of, tombstoned_in, met_before, KeptBefore, KnownBefore};
 
-use crate::whole::kind_at;
+use crate::whole::WholeRecords;
 use rules::Sheet;
 
-// The numbers already met, at most 1024, with their count. Marks lie beside them: where the mark of a number is 0, the number was not met. A number that
-// row 5 does not let through is not kept: whether it was met is asked of the records.
+// A list of items: its records, and the kinds of its items and of its tombstones.
+#[derive(Clone, Copy)]
+pub struct ItemList<'a> {
+    pub records: WholeRecords<'a>,
+    pub item: u8,
+    pub tombstone: u8,
+}
+
+// The numbers of a list that are kept, at most 1024: the ordinals of its tombstones, and then those of its items so far. Marks lie beside them: where the
+// mark of a number is 0, the number is not among them. An ordinal that row 5 does not let through is not kept: whether it was met is asked of the records.
 #[derive(Drop)]
-pub struct Seen {
+pub struct Seen<'a> {
+    pub list: ItemList<'a>,
     pub ordinals: [u32; 1024],
+    pub marks: [u8; 1021],
+    pub tombstones: usize,
     pub len: usize,
+}
+
+// Whether a tombstone of the list has an ordinal, and whether an item before has it.
+#[derive(Clone, Copy)]
+pub struct Meeting {
+    pub tombstoned: bool,
+    pub met: bool,
 }
 
 // Where the mark of a number lies. Numbers in equal steps have marks of their own, since 1021 is a prime.
@@ -23,53 +43,43 @@ fn mark(ordinal: u32) -> usize
     (ordinal % 1021) as usize
 }
 
-// Whether the number is among those from place `a` up to place `e`, asked one by one.
-fn is_in(ordinals: &[u32; 1024], a: usize, e: usize, ordinal: u32) -> bool
-    requires { (a ≤ e) × (e ≤ 1024) }
-    ensures { result ≡ member ordinal (latest ordinals.now a (e - a)) }
+// Whether the number is among those. Each turn asks one of the first and one of the last of them: two windows, which overlap where they must for the turns
+// to be a multiple of 8, as many as the compiled code takes at once.
+fn contains(numbers: &[u32], number: u32) -> bool
+    ensures { result ≡ member number (latest numbers.now 0 (length numbers.now)) }
 {
-    let mut found = false;
-    let mut i = a;
-    while i < e {
-        found = (ordinal == ordinals[i]) | found;
-        i += 1;
-    }
-    found
-}
-
-// Whether the number is among those from place `a` up to place `e`. Each turn asks one of the first and one of the last of them: two windows, which overlap
-// where they must for the turns to be a multiple of 8, as many as the compiled code takes at once.
-fn contains(ordinals: &[u32; 1024], a: usize, e: usize, ordinal: u32) -> bool
-    requires { (a ≤ e) × (e ≤ 1024) }
-    ensures { result ≡ member ordinal (latest ordinals.now a (e - a)) }
-{
-    let count = e - a;
+    let count = numbers.len();
     if count < 8 {
-        return is_in(ordinals, a, e, ordinal);
+        return numbers.contains(&number);
     }
     let window = (count + 15) / 16 * 8;
-    let last = e - window;
+    let last = count - window;
     let mut found = false;
-    let mut i = 0;
-    while i < window {
-        found = (ordinal == ordinals[a + i]) | (ordinal == ordinals[last + i]) | found;
-        i += 1;
+    for i in 0..window {
+        found = (number == numbers[i]) | (number == numbers[last + i]) | found;
     }
     found
 }
 
-// Whether a record of that kind, among records `a` up to `e`, has that number.
-fn is_among(sheet: &[u8], kind: u8, a: usize, e: usize, ordinal: u64) -> bool
-    requires { a ≤ e }
-    ensures { (result ≡ member ordinal (values_of kind (view_of sheet.now a e))) × (result ≡ member ordinal (values_before kind sheet.now a e)) }
+// Whether record `i` is of that kind and has that number.
+#[tactic(auto, unfolding(crate::specs::Earlier::has_value))]
+fn has_value(sheet: &[u8], kind: u8, i: usize, ordinal: u64) -> bool
+    ensures { result ≡ has_value kind sheet.now ordinal i }
 {
-    let mut found = false;
-    let mut i = a;
-    while i < e {
-        found = ((sheet::kind(sheet, i) == kind) & (ordinal == sheet::value(sheet, i))) | found;
-        i += 1;
+    (sheet::kind(sheet, i) == kind) & (ordinal == sheet::value(sheet, i))
+}
+
+// Whether a record of that kind, among records `start` up to `end`, has that number.
+fn is_among(sheet: &[u8], kind: u8, start: usize, end: usize, ordinal: u64) -> bool
+    ensures found { result ≡ true → (i : ℕ) × (start ≤ i) × (i < end) × (has_value kind sheet.now ordinal i ≡ true) }
+    ensures none { result ≡ false → (i : ℕ) → start ≤ i → i < end → has_value kind sheet.now ordinal i ≡ false }
+{
+    for i in start..end {
+        if has_value(sheet, kind, i, ordinal) {
+            return true;
+        }
     }
-    found
+    false
 }
 
 // The number, as a number of 32 bits.
@@ -80,126 +90,101 @@ fn short(ordinal: u64) -> u32
     ordinal as u32
 }
 
-// Puts the ordinals of the records of a kind, among records `a` up to `e`, into the array, that of the last record first, and sets their marks; those that
-// row 5 does not let through are left out. Returns how many there are.
-pub fn collect(
-    sheet: &[u8],
-    ordinals: &mut [u32; 1024],
-    marks: &mut [u8; 1021],
-    kind: u8,
-    a: usize,
-    e: usize,
-) -> usize
-    requires { (length ordinals.old ≡ 1024) × (length marks.old ≡ 1021) × (a ≤ e) × (e ≤ 1024) × (e * 32 ≤ length sheet.now) }
-    ensures { (length ordinals.new ≡ 1024) × (length marks.new ≡ 1021) × (result ≤ e - a) × (latest ordinals.new 0 result ≡ narrow (values_of kind (view_of sheet.now a e))) × Marked ordinals.new marks.new result }
-{
-    let mut len = 0;
-    let mut i = e;
-    while a < i {
-        i -= 1;
-        if kind_at(sheet, i) != kind {
-            continue;
-        }
-        let ordinal = sheet::value(sheet, i);
+impl<'a> Seen<'a> {
+    // Tells of the ordinal of record `i`, whatever its mark says: asks the numbers that are kept, or the records where it is not to be kept.
+    fn tell(&self, i: usize, ordinal: u64) -> Meeting
+        requires { KeptBefore self.now i }
+        ensures tombstoned { result.tombstoned ≡ tombstoned_in self.now.list ordinal }
+        ensures met { result.met ≡ met_before self.now.list i ordinal }
+    {
+        let sheet = self.list.records.context.sheet;
+        let range = self.list.records.range;
         if Sheet::MAX_ORDINAL < ordinal {
-            continue;
+            return Meeting {
+                tombstoned: is_among(sheet, self.list.tombstone, range.start, range.end, ordinal),
+                met: is_among(sheet, self.list.item, range.start, i, ordinal),
+            };
         }
         let number = short(ordinal);
-        ordinals[len] = number;
-        marks[mark(number)] = 1;
-        len += 1;
+        Meeting {
+            tombstoned: contains(&self.ordinals[..self.tombstones], number),
+            met: contains(&self.ordinals[self.tombstones..self.len], number),
+        }
     }
-    len
-}
 
-// Whether a tombstone has an ordinal, and whether an item before has it.
-#[derive(Clone, Copy)]
-struct Told {
-    tombstoned: bool,
-    met: bool,
-}
-
-// Tells of the ordinal of record `i`, whatever its mark says: asks the numbers that are kept, or the records where it is not to be kept.
-fn tell(
-    sheet: &[u8],
-    ordinals: &[u32; 1024],
-    kind: u8,
-    tombstone: u8,
-    a: usize,
-    e: usize,
-    i: usize,
-    tombstones: usize,
-    len: usize,
-    ordinal: u64,
-) -> Told
-    requires { Kept kind tombstone sheet.now a e tombstones ordinals.now len i }
-    ensures { (result.tombstoned ≡ member ordinal (values_of tombstone (view_of sheet.now a e))) × (result.met ≡ member ordinal (values_before kind sheet.now a i)) }
-{
-    if Sheet::MAX_ORDINAL < ordinal {
-        let tombstoned = is_among(sheet, tombstone, a, e, ordinal);
-        let met = is_among(sheet, kind, a, i, ordinal);
-        return Told { tombstoned, met };
+    // Keeps the number behind those that are kept, and sets its mark.
+    fn keep(&mut self, number: u32)
+        requires { self.old.len < 1024 }
+        ensures list { self.new.list ≡ self.old.list }
+        ensures ordinals { self.new.ordinals ≡ slice_set self.old.ordinals self.old.len number }
+        ensures marks { self.new.marks ≡ slice_set self.old.marks (number % 1021) 1 }
+        ensures tombstones { self.new.tombstones ≡ self.old.tombstones }
+        ensures len { self.new.len ≡ self.old.len + 1 }
+    {
+        self.ordinals[self.len] = number;
+        self.marks[mark(number)] = 1;
+        self.len += 1;
     }
-    let number = short(ordinal);
-    let tombstoned = contains(ordinals, 0, tombstones, number);
-    let met = contains(ordinals, tombstones, len, number);
-    Told { tombstoned, met }
-}
 
-// Whether a tombstone has an ordinal, whether an item before has it, and how many numbers are kept with it.
-#[derive(Clone, Copy)]
-pub struct Meeting {
-    pub tombstoned: bool,
-    pub met: bool,
-    pub len: usize,
-}
+    // Meets the ordinal of record `i`, an item of the list: says whether it was met, and keeps it. Most have a mark of 0. The others are told of by a call,
+    // which stands twice, and whose answer is taken apart: so the compiler keeps it out of the lists' loops.
+    pub fn meet(&mut self, i: usize, ordinal: u64) -> Meeting
+        requires inside { i < end_of self.old.list }
+        requires item { is self.old.list.item (view_at (sheet_of self.old.list) i) ≡ true }
+        requires read { ordinal ≡ value_in (record_bytes (sheet_of self.old.list) i) }
+        requires known { KnownBefore self.old i }
+        ensures list { self.new.list ≡ self.old.list }
+        ensures tombstoned { result.tombstoned ≡ tombstoned_in self.old.list ordinal }
+        ensures met { result.met ≡ met_before self.old.list i ordinal }
+        ensures known { KnownBefore self.new (i + 1) }
+    {
+        if Sheet::MAX_ORDINAL < ordinal {
+            let told = self.tell(i, ordinal);
+            return Meeting {
+                tombstoned: told.tombstoned,
+                met: told.met,
+            };
+        }
+        let number = short(ordinal);
+        if self.marks[mark(number)] != 0 {
+            let told = self.tell(i, ordinal);
+            self.keep(number);
+            return Meeting {
+                tombstoned: told.tombstoned,
+                met: told.met,
+            };
+        }
+        self.keep(number);
+        Meeting {
+            tombstoned: false,
+            met: false,
+        }
+    }
 
-// Meets the ordinal of record `i`, an item of that kind in the list at records `a` up to `e`: says whether it was met, and keeps it behind those met. Most
-// have a mark of 0. The others are told of by a call, which stands twice, and whose answer is taken apart: so the compiler keeps it out of the lists' loops.
-pub fn meet(
-    sheet: &[u8],
-    ordinals: &mut [u32; 1024],
-    marks: &mut [u8; 1021],
-    kind: u8,
-    tombstone: u8,
-    a: usize,
-    e: usize,
-    i: usize,
-    tombstones: usize,
-    len: usize,
-    ordinal: u64,
-) -> Meeting
-    requires { ToMeet kind tombstone sheet.now a e tombstones ordinals.old marks.old len i ordinal }
-    ensures { MetAt kind tombstone sheet.now a e tombstones ordinals.new marks.new i ordinal result }
-{
-    if Sheet::MAX_ORDINAL < ordinal {
-        let told = tell(
-            sheet, ordinals, kind, tombstone, a, e, i, tombstones, len, ordinal,
-        );
-        return Meeting {
-            tombstoned: told.tombstoned,
-            met: told.met,
-            len,
+    // The ordinals of the list's tombstones, that of the last first.
+    pub fn of(list: ItemList<'a>) -> Seen<'a>
+        requires { list.item ≢ list.tombstone }
+        ensures list { result.list ≡ list.entry }
+        ensures known { KnownBefore result (start_of list.entry) }
+    {
+        let mut seen = Seen {
+            list,
+            ordinals: [0; 1024],
+            marks: [0; 1021],
+            tombstones: 0,
+            len: 0,
         };
-    }
-    let number = short(ordinal);
-    let m = mark(number);
-    if marks[m] != 0 {
-        let told = tell(
-            sheet, ordinals, kind, tombstone, a, e, i, tombstones, len, ordinal,
-        );
-        ordinals[len] = number;
-        return Meeting {
-            tombstoned: told.tombstoned,
-            met: told.met,
-            len: len + 1,
-        };
-    }
-    ordinals[len] = number;
-    marks[m] = 1;
-    Meeting {
-        tombstoned: false,
-        met: false,
-        len: len + 1,
+        for i in (list.records.range.start..list.records.range.end).rev() {
+            if list.records.kind(i) != list.tombstone {
+                continue;
+            }
+            let ordinal = sheet::value(list.records.context.sheet, i);
+            if Sheet::MAX_ORDINAL < ordinal {
+                continue;
+            }
+            seen.keep(short(ordinal));
+        }
+        seen.tombstones = seen.len;
+        seen
     }
 }

@@ -1,143 +1,96 @@
 // A union: rules 35 and 36, and the fields of its variants.
-ghost use Rattle.std.specs.Prelude.{◌≡◌, List, ℕ, ◌*◌, ◌<◌, ◌≤◌, length};
-ghost use Rattle.rules.specs.declared.answer.Counts.{Counts};
+ghost use Rattle.std.specs.Prelude.{◌≡◌, ◌<◌};
 ghost use Rattle.rules.specs.Record.{value_in, record_bytes};
 ghost use Rattle.rules.specs.Bodies.{field_list_violations, union_violations};
-ghost use Rattle.names.specs.View.{view_of, context_by};
-ghost use Rattle.diagnostic.specs.Push.{push_found};
-ghost use Rattle.annotations.specs.Slots.{Ready};
+ghost use Rattle.names.specs.Known.{table_of, context_in, records_in};
+ghost use Rattle.diagnostic.specs.Violations.{Adds};
+ghost use Rattle.bodies.specs.FieldNames.{AreOfFields};
 ghost use Rattle.bodies.specs.Items.{variant_found};
 
-use crate::field::{check_bare, is_bare};
-use crate::message::{check_message_body, check_parts, field_rules};
-use crate::ordinal::{OrdinalRules, check_ordinal};
-use crate::runs::{Run, run_end};
-use crate::seen::{Seen, collect, meet};
-use crate::whole::{kind_at, ordinal_at};
-use rules::{Counts, Sheet, Violation};
+use crate::message::{check_message_body, check_ordinal_and_name, check_parts};
+use crate::ordinal::OrdinalRules;
+use crate::runs::{is_field_part, is_variant_part, run_end};
+use crate::seen::{ItemList, Meeting, Seen};
+use crate::whole::WholeRecords;
+use annotations::MetNames;
+use diagnostic::Violations;
 use sheet::kinds;
 
-// Adds what is wrong with the fields at records `a` up to `e` of a variant, by the slots of names lent for them. For a single field, before which nothing
-// is met, no numbers are kept.
-fn check_fields(
-    sheet: &[u8],
-    table: &[u16; 5122],
-    list: &mut [u8],
-    counts: Counts,
-    names: &mut [u16; 1024],
-    a: usize,
-    e: usize,
-) -> Counts
-    requires { (a ≤ e) × (e ≤ 1024) × Ready names.old a × (e * 32 ≤ length sheet.now) }
-    ensures { ◌≡◌ {A = List ℕ × Counts} (list.new, result) (push_found (field_list_violations (context_by table.now sheet.now) (view_of sheet.now a e)) (list.old, counts)) × Ready names.new e }
+// Adds what is wrong with the fields of a variant, by the names lent for them. For a single field, before which nothing is met, no numbers and no names
+// are kept.
+fn check_fields(fields: WholeRecords, violations: &mut Violations, names: &mut MetNames)
+    requires { AreOfFields fields.context names.old }
+    ensures found { Adds violations.old violations.new (field_list_violations (context_in fields.entry.context) (records_in fields.entry.context fields.entry.range)) }
+    ensures names { AreOfFields fields.entry.context names.new }
 {
-    if e <= a {
-        return counts;
+    if fields.range.is_empty() {
+        return;
     }
-    let end = run_end(sheet, Run::FieldItem, a + 1, e);
-    if (kind_at(sheet, a) != kinds::FIELD) | (end < e) {
-        return check_message_body(sheet, table, list, counts, names, a, e);
+    let field = fields.range.start;
+    let rest = fields.from(field + 1);
+    let end = run_end(rest, is_field_part);
+    let several = (fields.kind(field) != kinds::FIELD) | (end < fields.range.end);
+    if several {
+        check_message_body(fields, violations, names);
+        return;
     }
-    let ordinal = ordinal_at(sheet, a);
-    let counts = check_ordinal(sheet, list, counts, a, ordinal, field_rules(), false, false);
-    let first = a + 1;
-    if is_bare(sheet, first, e) {
-        return check_bare(sheet, table, list, counts, first);
-    }
-    let passed = check_parts(sheet, table, list, counts, first, e);
-    passed.counts
-}
-
-// Adds what is wrong with the variant at record `i`, whose fields end at record `end`, by the slots of names lent for them.
-fn check_variant(
-    sheet: &[u8],
-    table: &[u16; 5122],
-    list: &mut [u8],
-    counts: Counts,
-    names: &mut [u16; 1024],
-    i: usize,
-    end: usize,
-    ordinal: u64,
-    tombstoned: bool,
-    met: bool,
-) -> Counts
-    requires { (i < end) × (end ≤ 1024) × Ready names.old i × (ordinal ≡ value_in (record_bytes sheet.now i)) × (end * 32 ≤ length sheet.now) }
-    ensures { ◌≡◌ {A = List ℕ × Counts} (list.new, result) (push_found (variant_found table.now sheet.now i end tombstoned met) (list.old, counts)) × Ready names.new end }
-{
-    let rules = OrdinalRules {
-        greatest: Sheet::MAX_FIELD_ORDINAL,
-        too_large: Violation::UnionOrdinalTooLarge,
-        reused: Violation::UnionOrdinalDuplicate,
-        duplicate: Violation::UnionOrdinalDuplicate,
+    let ordinal = fields.ordinal(field);
+    let meeting = Meeting {
+        tombstoned: false,
+        met: false,
     };
-    let counts = check_ordinal(sheet, list, counts, i, ordinal, rules, tombstoned, met);
-    check_fields(sheet, table, list, counts, names, i + 1, end)
-}
-
-// Adds what is wrong with the union at records `a` up to `e`. The slots of its fields' names are made once, and serve one variant after the other.
-pub fn check_union(
-    sheet: &[u8],
-    table: &[u16; 5122],
-    list: &mut [u8],
-    counts: Counts,
-    a: usize,
-    e: usize,
-) -> Counts
-    requires { (a ≤ e) × (e ≤ 1024) × (e * 32 ≤ length sheet.now) }
-    ensures { ◌≡◌ {A = List ℕ × Counts} (list.new, result) (push_found (union_violations (context_by table.now sheet.now) (view_of sheet.now a e)) (list.old, counts)) }
-{
-    let mut seen = Seen {
-        ordinals: [0; 1024],
-        len: 0,
-    };
-    let mut marks: [u8; 1021] = [0; 1021];
-    let tombstones = collect(
-        sheet,
-        &mut seen.ordinals,
-        &mut marks,
-        kinds::TOMBSTONE,
-        a,
-        e,
+    check_ordinal_and_name(
+        fields.context.sheet,
+        violations,
+        field,
+        ordinal,
+        meeting,
+        false,
     );
-    seen.len = tombstones;
-    let mut names: [u16; 1024] = [0; 1024];
-    let mut counts = counts;
-    let mut i = a;
-    while i < e {
-        if kind_at(sheet, i) != kinds::VARIANT {
+    check_parts(rest, violations);
+}
+
+// Adds what is wrong with the variant, whose ordinal is that number, by the names lent for its fields.
+fn check_variant(
+    variant: WholeRecords,
+    violations: &mut Violations,
+    names: &mut MetNames,
+    ordinal: u64,
+    meeting: Meeting,
+)
+    requires some { variant.range.start < variant.range.end }
+    requires read { ordinal ≡ value_in (record_bytes variant.context.sheet.now variant.range.start) }
+    requires names { AreOfFields variant.context names.old }
+    ensures found { Adds violations.old violations.new (variant_found (table_of variant.entry.context) variant.entry.context.sheet.now variant.entry.range.start variant.entry.range.end meeting.tombstoned meeting.met) }
+    ensures names { AreOfFields variant.entry.context names.new }
+{
+    let item = variant.range.start;
+    OrdinalRules::UNION.check(variant.context.sheet, violations, item, ordinal, meeting);
+    check_fields(variant.from(item + 1), violations, names);
+}
+
+// Adds what is wrong with the union. The names of fields are kept in one place, which serves one variant after the other.
+pub fn check_union(body: WholeRecords, violations: &mut Violations)
+    ensures { Adds violations.old violations.new (union_violations (context_in body.entry.context) (records_in body.entry.context body.entry.range)) }
+{
+    let mut seen = Seen::of(ItemList {
+        records: body,
+        item: kinds::VARIANT,
+        tombstone: kinds::TOMBSTONE,
+    });
+    let mut names = MetNames::new(body.context, kinds::FIELD, body.range.start);
+    let mut i = body.range.start;
+    // a `for` cannot step by what it reads
+    while i < body.range.end {
+        if body.kind(i) != kinds::VARIANT {
             i += 1;
             continue;
         }
-        let ordinal = ordinal_at(sheet, i);
-        let at = seen.len;
-        let meeting = meet(
-            sheet,
-            &mut seen.ordinals,
-            &mut marks,
-            kinds::VARIANT,
-            kinds::TOMBSTONE,
-            a,
-            e,
-            i,
-            tombstones,
-            at,
-            ordinal,
-        );
-        seen.len = meeting.len;
-        let end = run_end(sheet, Run::Item, i + 1, e);
-        counts = check_variant(
-            sheet,
-            table,
-            list,
-            counts,
-            &mut names,
-            i,
-            end,
-            ordinal,
-            meeting.tombstoned,
-            meeting.met,
-        );
+        let ordinal = body.ordinal(i);
+        let meeting = seen.meet(i, ordinal);
+        let end = run_end(body.from(i + 1), is_variant_part);
+        let variant = body.part(i, end);
+        check_variant(variant, violations, &mut names, ordinal, meeting);
         i = end;
     }
-    counts
 }

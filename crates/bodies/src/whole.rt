@@ -1,24 +1,19 @@
 // Whole records of a sheet, which are read without a test of where the sheet ends.
-ghost use Rattle.std.specs.Prelude.{◌≡◌, true, ◌+◌, ◌*◌, ◌≤◌, length};
+ghost use Rattle.std.specs.Prelude.{◌≡◌, true, ◌+◌, ◌*◌, ◌<◌, ◌≤◌, length};
 ghost use Rattle.rules.specs.Kind;
 ghost use Rattle.rules.specs.Record.{number_at, record_bytes, kind_in, value_in};
 
-use rules::Sheet;
+use names::ValidationContext;
+use rules::{RecordRange, Sheet};
 
-// The kind of record `i`.
-pub fn kind_at(sheet: &[u8], i: usize) -> u8
-    requires { (i + 1) * 32 ≤ length sheet.now }
-    ensures { result ≡ kind_in (record_bytes sheet.now i) }
-{
-    let first = i * Sheet::RECORD;
-    sheet[first]
-}
-
-// The number in four bytes.
-fn joined(a: u8, b: u8, c: u8, d: u8) -> u32
-    ensures { result ≡ a + 256 * (b + 256 * (c + 256 * d)) }
-{
-    a as u32 + 256 * (b as u32) + 65536 * (c as u32) + 16777216 * (d as u32)
+// Whole records of a sheet, in a row and among the first 1,024, with what they are checked against.
+#[derive(Clone, Copy)]
+pub struct WholeRecords<'a> {
+    pub context: ValidationContext<'a>,
+    pub range: RecordRange,
+    pub ghost ordered: { range.start ≤ range.end },
+    pub ghost few: { range.end ≤ 1024 },
+    pub ghost whole: { range.end * 32 ≤ length context.sheet.now },
 }
 
 // The number in the four bytes from `at` on of record `i`.
@@ -27,18 +22,53 @@ fn word_at(sheet: &[u8], i: usize, at: usize) -> u32
     ensures { result ≡ number_at at 4 (record_bytes sheet.now i) }
 {
     let first = i * Sheet::RECORD + at;
-    joined(
+    u32::from_le_bytes([
         sheet[first],
         sheet[first + 1],
         sheet[first + 2],
         sheet[first + 3],
-    )
+    ])
 }
 
-// The ordinal of record `i`, a field, a variant or a tombstone.
-pub fn ordinal_at(sheet: &[u8], i: usize) -> u64
-    requires { ((i + 1) * 32 ≤ length sheet.now) × (Kind.has_ordinal (kind_in (record_bytes sheet.now i)) ≡ true) }
-    ensures { result ≡ value_in (record_bytes sheet.now i) }
-{
-    word_at(sheet, i, 24) as u64 + 4294967296 * (word_at(sheet, i, 28) as u64)
+impl<'a> WholeRecords<'a> {
+    // The kind of record `i`.
+    pub fn kind(self, i: usize) -> u8
+        requires { i < self.range.end }
+        ensures { result ≡ kind_in (record_bytes self.entry.context.sheet.now i) }
+    {
+        self.context.sheet[i * Sheet::RECORD]
+    }
+
+    // The ordinal of record `i`, a field, a variant or a tombstone.
+    #[tactic(auto, using(crate::proofs::WholeRecords::ordinal_whole))]
+    pub fn ordinal(self, i: usize) -> u64
+        requires inside { i < self.range.end }
+        requires numbered { Kind.has_ordinal (kind_in (record_bytes self.context.sheet.now i)) ≡ true }
+        ensures { result ≡ value_in (record_bytes self.entry.context.sheet.now i) }
+    {
+        let sheet = self.context.sheet;
+        word_at(sheet, i, 24) as u64 + 4294967296 * (word_at(sheet, i, 28) as u64)
+    }
+
+    // Those of them from record `start` on.
+    pub fn from(self, start: usize) -> WholeRecords<'a>
+        requires { start ≤ self.range.end }
+        ensures range { result.range ≡ record { start = start; end = self.entry.range.end } }
+        ensures context { result.context ≡ self.entry.context }
+    {
+        self.part(start, self.range.end)
+    }
+
+    // Those of them from record `start` up to record `end`.
+    pub fn part(self, start: usize, end: usize) -> WholeRecords<'a>
+        requires ordered { start ≤ end }
+        requires inside { end ≤ self.range.end }
+        ensures range { result.range ≡ record { start = start; end = end } }
+        ensures context { result.context ≡ self.entry.context }
+    {
+        WholeRecords {
+            context: self.context,
+            range: RecordRange { start, end },
+        }
+    }
 }

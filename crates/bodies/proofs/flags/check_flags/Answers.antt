@@ -1,0 +1,14 @@
+-- The bits are told one after the other.
+use Rattle.std.proofs.Common.{rules}
+use Rattle.conditions.proofs.Remaining.{remains_all, remains_next, remains_end}
+use Rattle.bodies.proofs.Bits.{flags_bits}
+use Rattle.bodies.proofs.flags.check_flags.Goals as goal
+
+pub loop-i-init : goal.loop-i-init
+loop-i-init c = remains_all _ _
+
+pub loop-i-preserved : goal.loop-i-preserved
+loop-i-preserved c = search (rules, remains_next)
+
+pub returns : goal.returns
+returns c = rw flags_bits (search (rules, remains_end))
