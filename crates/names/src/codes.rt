@@ -1,6 +1,6 @@
 // Whether a bit may have a name. The bytes of a long name are told by blocks of the names text, each of which is looked at once, when a name needs it, so
 // that names which share their bytes cost no more than those bytes.
-ghost use Rattle.std.specs.Prelude.{◌≡◌, true, ◌-◌, ◌*◌, ◌≤◌, ◌<◌, length, take, drop};
+ghost use Rattle.std.specs.Prelude.{◌≡◌, true, ◌+◌, ◌-◌, ◌*◌, ◌≤◌, ◌<◌, length, take, drop, min, max};
 ghost use Rattle.rules.specs.Record.{record_bytes, name_in};
 ghost use Rattle.rules.specs.Context.{valid_field_name};
 ghost use Rattle.sheet.specs.Mark.{HasMarks, continue_by};
@@ -37,6 +37,20 @@ impl<'a> Spelling<'a> {
         }
     }
 
+    // Whether all bytes of block `k` may go on in a name, which is kept.
+    #[inline(never)]
+    fn look(&mut self, k: usize) -> bool
+        requires { (k * 64 < length self.old.names.now) × (k < 256) }
+        ensures told { result ≡ true → continue_by self.old.marks.now (take 64 (drop (k * 64) self.old.names.now)) ≡ true }
+        ensures same { (self.new.marks ≡ self.old.marks) × (self.new.names ≡ self.old.names) }
+    {
+        let start = k * BLOCK;
+        let end = self.names.len().min(start + BLOCK);
+        let good = sheet::continue_by(self.marks, &self.names[start..end]);
+        self.blocks[k] = Some(good);
+        good
+    }
+
     // Whether all bytes of block `k` may go on in a name, as far as that is known: of the first 256 blocks.
     fn is_good(&mut self, k: usize) -> bool
         requires { k * 64 < length self.old.names.now }
@@ -46,14 +60,22 @@ impl<'a> Spelling<'a> {
         if BLOCKS <= k {
             return false;
         }
-        if let Some(good) = self.blocks[k] {
-            return good;
+        match self.blocks[k] {
+            Some(good) => good,
+            None => self.look(k),
         }
-        let start = k * BLOCK;
-        let end = self.names.len().min(start + BLOCK);
-        let good = sheet::continue_by(self.marks, &self.names[start..end]);
-        self.blocks[k] = Some(good);
-        good
+    }
+
+    // Whether each byte from `start` to `end` that is in block `k` may go on in a name.
+    #[inline(never)]
+    fn piece_continues(&self, k: usize, start: usize, end: usize) -> bool
+        requires { (k * 64 < end) × (start < k * 64 + 64) × (start ≤ end) × (end ≤ length self.now.names.now) }
+        ensures { result ≡ continue_by self.now.marks.now (take (k * 64 + min (end - k * 64) 64 - max start (k * 64)) (drop (max start (k * 64)) self.now.names.now)) }
+    {
+        let at = k * BLOCK;
+        let from = start.max(at);
+        let to = at + (end - at).min(BLOCK);
+        sheet::continue_by(self.marks, &self.names[from..to])
     }
 
     // Whether each byte from `start` to `end` may go on in a name.
@@ -64,13 +86,10 @@ impl<'a> Spelling<'a> {
         ensures same { (self.new.marks ≡ self.old.marks) × (self.new.names ≡ self.old.names) }
     {
         for k in start / BLOCK..end.div_ceil(BLOCK) {
-            let at = k * BLOCK;
-            let from = start.max(at);
-            let to = at + (end - at).min(BLOCK);
             if self.is_good(k) {
                 continue;
             }
-            if !sheet::continue_by(self.marks, &self.names[from..to]) {
+            if !self.piece_continues(k, start, end) {
                 return false;
             }
         }

@@ -27,8 +27,8 @@ fn windows_same(a: &[u8], b: &[u8], n: usize) -> bool
     if !window_same(a, b, last, n) {
         return false;
     }
-    for i in (0..last).step_by(n) {
-        if !window_same(a, b, i, n) {
+    for k in 0..last.div_ceil(n) {
+        if !window_same(a, b, k * n, n) {
             return false;
         }
     }

@@ -25,6 +25,7 @@ impl Chains {
         requires { (is_keyed (record_of named.now.sheet.now named.now.names.now named.now.index) ≡ true) × (bucket ≡ bucket_of named.now.name.now) × (bucket < 1024) × Chained named.now.sheet.now named.now.names.now self.now.heads self.now.links named.now.index }
         ensures { MatchOption result (id_in (known named.now.sheet.now named.now.names.now) named.now.index (record_of named.now.sheet.now named.now.names.now named.now.index) ≡ named.now.index) (λ id. (id ≡ id_in (known named.now.sheet.now named.now.names.now) named.now.index (record_of named.now.sheet.now named.now.names.now named.now.index)) × (id < named.now.index)) }
     {
+        // A walk along a chain, each turn of which reads where the next one goes on.
         let mut place = usize::from(self.heads[bucket]);
         while place != 0 {
             let first = place - 1;

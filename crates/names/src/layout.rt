@@ -1,4 +1,4 @@
-// Where the parts of the table stand.
+// Where the parts of the table stand. It is one array, as the definitions have it as one list: what is stored in a part is one number of the list.
 
 // The numbers of the table.
 pub const SIZE: usize = 5122;

@@ -61,6 +61,7 @@ pub fn spread_notes(sheet: &[u8], names: &[u8], table: &mut [u16; layout::SIZE])
 pub fn fill_totals(sheet: &[u8], names: &[u8], table: &mut [u16; layout::SIZE])
     ensures { table.new ≡ take 5120 table.old ++ totals sheet.now names.now }
 {
+    // One loop for both, so that each kind is read once.
     let n = count(sheet);
     let mut wildcard = false;
     let mut found: u16 = 0;

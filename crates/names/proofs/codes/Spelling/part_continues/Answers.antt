@@ -1,5 +1,5 @@
 -- The marks and the text stay the same, so a block that is good, or a piece that goes on, leaves what is behind to decide.
-use Rattle.std.proofs.Common.{arith, sym, ◌∙◌}
+use Rattle.std.proofs.Common.{arith, refl, sym, ◌∙◌}
 use Rattle.names.proofs.Blocks.{walk_on, walk_on_block}
 use Rattle.names.proofs.codes.Spelling.part_continues.Goals as goal
 
@@ -19,6 +19,6 @@ loop-k-preserved c =
     let kept = c.is_good.ensures.same in record {
       same_marks = kept.0 ∙ inv.same_marks;
       same_names = kept.1 ∙ inv.same_names;
-      walked = walk_on _ _ _ _ _ _ _ c.loop-k.auto.k (omega arith) c.requires.0 c.max-from.ensures (omega (arith, c.min.ensures)) inv.walked
-          (rw (kept.0, kept.1, inv.same_marks, inv.same_names) at (sym c.if-not-continue_by.false ∙ c.continue_by.ensures));
+      walked = walk_on _ _ _ _ _ _ _ c.loop-k.auto.k (omega arith) c.requires.0 refl refl inv.walked
+          (rw (kept.0, kept.1, inv.same_marks, inv.same_names) at (sym c.if-not-piece_continues.false ∙ c.piece_continues.ensures));
     }
