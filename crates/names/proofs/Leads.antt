@@ -166,8 +166,8 @@ module _ (sheet names : List ℕ) where
             rw (get_or-set_other links i k (get_or heads b 0) 0 (λ e. differ (sym e))) (chained.link c k (omega arith) l)
 
   -- at the start every chain is empty
-  pub chained-none : Chained sheet names (replicate 1024 0) (replicate 1024 0) 0
-  chained-none =
+  pub chained_none : Chained sheet names (replicate 1024 0) (replicate 1024 0) 0
+  chained_none =
       record {
         heads-size = length-replicate {A = ℕ} 1024 0;
         links-size = length-replicate {A = ℕ} 1024 0;

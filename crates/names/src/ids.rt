@@ -1,5 +1,5 @@
 // Where the name of a record is met first: the id.
-ghost use Rattle.std.specs.Prelude.{◌≡◌, true, ◌+◌, ◌≤◌, ◌<◌, MatchOption};
+ghost use Rattle.std.specs.Prelude.{◌≡◌, true, List, ℕ, ◌+◌, ◌≤◌, ◌<◌, MatchOption};
 ghost use Rattle.names.specs.NameTable.{id_in, is_keyed};
 ghost use Rattle.names.specs.Parts.{known, record_of};
 ghost use Rattle.names.specs.Buckets.{bucket_of, Chained};
@@ -14,11 +14,21 @@ use crate::own::{Named, name_at};
 // A place is 0 where there is none, as in the table.
 #[derive(Drop)]
 pub struct Chains {
-    pub heads: [u16; layout::PART],
-    pub links: [u16; layout::PART],
+    heads: [u16; layout::PART],
+    links: [u16; layout::PART],
 }
 
 impl Chains {
+    // Chains of no record.
+    pub fn new() -> Self
+        ensures { (sheet names : List ℕ) → Chained sheet names result.heads result.links 0 }
+    {
+        Chains {
+            heads: [0; layout::PART],
+            links: [0; layout::PART],
+        }
+    }
+
     // The id of a record whose name is compared, if the chain of its bucket, which has all first records before it, has a record with the name.
     #[tactic(auto, using(crate::proofs::Leads::walks))]
     fn find(&self, named: &Named, bucket: usize) -> Option<usize>

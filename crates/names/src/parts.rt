@@ -16,10 +16,7 @@ pub fn read_records(sheet: &[u8], names: &[u8], table: &mut [u16; layout::SIZE])
     requires { table.old ≡ replicate 5122 0 }
     ensures { Read sheet.now names.now table.new (known_count sheet.now) (known_count sheet.now) }
 {
-    let mut chains = Chains {
-        heads: [0; layout::PART],
-        links: [0; layout::PART],
-    };
+    let mut chains = Chains::new();
     let marks = sheet::name_marks();
     let mut spelling = Spelling::new(&marks, names);
     for i in 0..count(sheet) {

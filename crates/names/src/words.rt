@@ -1,4 +1,4 @@
-// The code of a name.
+// The code of a name: a number, as the table has it.
 ghost use Rattle.std.specs.Prelude.{◌≡◌};
 ghost use Rattle.names.specs.NameTable.{word_code};
 
