@@ -38,11 +38,11 @@ fn grammar_step(
 {
     let kind = sheet::kind(sheet, i);
     let sub = byte(sheet, i, 1);
-    let next = step(due, s, kind, sub)?;
+    let State { body, item } = step(due, s, kind, sub)?;
     if (kind == kinds::DECLARATION) && is_second(table, i) {
         return Err(Refusal::SecondDeclaration); // row 8
     }
-    Ok(next)
+    Ok(State { body, item })
 }
 
 // Rows 3 to 8 at record `i`, the lowest number first.
@@ -92,8 +92,8 @@ pub fn first_fault(sheet: &[u8], names: &[u8], table: &[u16; 5122]) -> Result<us
                     index: i as u32,
                 });
             }
-            Ok(next) => {
-                s = next;
+            Ok(State { body, item }) => {
+                s = State { body, item };
                 end = newtypes_end(sheet, end, i);
                 // A run is as long as its records make it, so that no `for` can step here.
                 i = run_end(sheet, names, &mut due, s, i + 1, n);
