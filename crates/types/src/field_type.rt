@@ -81,8 +81,9 @@ fn is_passed(sheet: &[u8], i: usize) -> bool
     ensures { result ≡ is_passed (view_at sheet.now i) }
 {
     match sheet::kind(sheet, i) {
+        kinds::OPTIONAL..=kinds::ARRAY => true,
         kinds::FIXED_ARRAY => sheet::value(sheet, i) != 0,
-        kind => matches!(kind, kinds::BIT_NAME | kinds::OPTIONAL..=kinds::ARRAY),
+        kind => kind == kinds::BIT_NAME,
     }
 }
 
@@ -118,12 +119,14 @@ fn check_types(context: ValidationContext, violations: &mut Violations, ty: Reco
             start: i + 1,
             end: ty.end,
         };
+        // asked before the check writes, so that it is read but once
+        let kind = sheet::kind(context.sheet, i);
         check_due_type(context, violations, due, i, rest);
         // what is due after the last record is never asked, and might not fit
         if rest.is_empty() {
             return;
         }
-        due = due.after(sheet::kind(context.sheet, i));
+        due = due.after(kind);
         if (due.skipped == 0) & (due.checked == 0) {
             return;
         }

@@ -28,14 +28,14 @@ after-due-requires-clause-room c =
     omega arith
 
 pub after-due-requires-clause-is_type : goal.after-due-requires-clause-is_type
-after-due-requires-clause-is_type c = λ bit. no_bit c.args.context.sheet.now c.loop-i.i (sym c.is_passed.ensures ∙ c.if-is_passed.false) (sym c.kind.ensures ∙ bit)
+after-due-requires-clause-is_type c = λ bit. no_bit c.args.context.sheet.now c.loop-i.i (sym c.is_passed.ensures ∙ c.if-is_passed.false) (sym c.kind-kind.ensures ∙ bit)
 
 pub returns-then-due : goal.returns-then-due
 returns-then-due c =
     types_done _ _ _ _ _ _ _ _
     (types_told _ _ _ _ _ _ _ _ c.loop-i.invariant.left _ c.loop-i-test.true (sym c.is_passed.ensures ∙ c.if-is_passed.false) c.check_due_type.ensures)
     c.after-due.result
-    (rw c.kind.ensures at c.after-due.ensures.stack)
+    (rw c.kind-kind.ensures at c.after-due.ensures.stack)
     c.if-due.true
 
 pub loop-i-preserved : goal.loop-i-preserved
@@ -43,7 +43,7 @@ loop-i-preserved c =
     record {
       few = omega arith;
       left =
-          rw (c.after-due.ensures.stack, c.kind.ensures)
+          rw (c.after-due.ensures.stack, c.kind-kind.ensures)
           (types_told _ _ _ _ _ _ _ _ c.loop-i.invariant.left _ c.loop-i-test.true (sym c.is_passed.ensures ∙ c.if-is_passed.false) c.check_due_type.ensures);
     }
 
