@@ -7,7 +7,7 @@ mod field_type;
 mod key;
 mod optional;
 mod own;
-mod subs;
+pub mod subs;
 mod valid;
 
 pub use declared::is_declared_as;

@@ -1,5 +1,7 @@
-// The subs that the rules of types name.
+// The subs that rules name, by the record that has them.
 // Of a primitive type.
+pub const BOOL: u8 = 0;
+
 pub const U8: u8 = 1;
 
 pub const U16: u8 = 2;
@@ -30,4 +32,8 @@ pub const MESSAGE: u8 = 0;
 
 pub const UNION: u8 = 3;
 
+pub const NEWTYPE: u8 = 4;
+
 pub const CONFIG: u8 = 5;
+
+pub const CONST: u8 = 7;
