@@ -34,3 +34,5 @@ module _ (ctx : ValidationContext ℕ Span) (sheet : List ℕ) (end : Rec ℕ Sp
   chain_out n k at ends h =
       let left : n - k ≡ 0 = omega arith in
       rw left at ends
+
+pub ruleset chain_rules = (chain_next, chain_over, chain_out)

@@ -62,3 +62,5 @@ module _ (table sheet : List ℕ) (i : ℕ) where
           behind (context_by table sheet) (view_at sheet i) ≡ at_place sheet (index_at (entry_of target_part table i))
       by zero h there = cc
       by (suc e) h there = rw (behind, named, declared-at e h)
+
+pub ruleset behind_rules = (behind_other, behind_undeclared, behind_declared)

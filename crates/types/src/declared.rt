@@ -18,6 +18,7 @@ pub fn is_declared_as(context: ValidationContext, sub: u8, i: usize) -> bool
 }
 
 // The type behind record `i`, a type that names a newtype, if there is one.
+#[tactic(auto, using(crate::proofs::Declarations::behind_rules))]
 pub fn behind(context: ValidationContext, i: usize) -> Option<usize>
     ensures { behind (context_in context.entry) (view_at context.entry.sheet.now i) ≡ at_place context.entry.sheet.now result }
 {

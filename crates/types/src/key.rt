@@ -15,6 +15,7 @@ use rules::{RecordRange, Violation};
 use sheet::kinds;
 
 // The type at the end of the chain of newtypes from type `i` on, or the one after as many steps as there are declarations.
+#[tactic(auto, using(crate::proofs::Chain::chain_rules))]
 fn chain_end(context: ValidationContext, i: usize) -> usize
     ensures { view_at context.entry.sheet.now result ≡ chain_end (context_in context.entry) (declarations_of (table_of context.entry)) (view_at context.entry.sheet.now i) }
 {

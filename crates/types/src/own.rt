@@ -54,6 +54,7 @@ fn check_element(context: ValidationContext, violations: &mut Violations, rest: 
 }
 
 // Adds rules 6 to 12 at type `i` alone.
+#[tactic(auto, using(crate::proofs::OwnKinds::adds_no_rule))]
 pub fn check_own_type(
     context: ValidationContext,
     violations: &mut Violations,

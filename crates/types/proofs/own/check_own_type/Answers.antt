@@ -2,7 +2,7 @@
 use Rattle.std.proofs.Common.{rules}
 use Rattle.rules.specs.Rule.{rule_row}
 use Rattle.diagnostic.proofs.Added.{adds_if}
-use Rattle.types.proofs.OwnKinds.{adds_named, adds_keyed, adds_geometric, adds_bits, adds_fixed, adds_no_rule}
+use Rattle.types.proofs.OwnKinds.{adds_named, adds_keyed, adds_geometric, adds_bits, adds_fixed}
 use Rattle.types.proofs.own.check_own_type.Goals as goal
 
 pub returns-in-33 : goal.returns-in-33
@@ -20,12 +20,3 @@ returns-in-39-to-40 c = adds_keyed _ _ _ _ _ _ _ c.kind.ensures (search rules) (
 
 pub returns-in-42-to-47 : goal.returns-in-42-to-47
 returns-in-42-to-47 c = adds_geometric _ _ _ _ _ _ _ c.kind.ensures (search rules) (search rules) c.check_element.ensures
-
-pub returns-then-this-lt38 : goal.returns-then-this-lt38
-returns-then-this-lt38 c = search (rules, adds_no_rule)
-
-pub returns-then-this-lt42 : goal.returns-then-this-lt42
-returns-then-this-lt42 c = search (rules, adds_no_rule)
-
-pub returns-else-this-lt48 : goal.returns-else-this-lt48
-returns-else-this-lt48 c = search (rules, adds_no_rule)
