@@ -124,3 +124,5 @@ module _ (ctx : ValidationContext ℕ Span) (sheet : List ℕ) (e : ℕ) (old : 
     types_done due same done =
         let none = both (eqb due.skipped 0) (eqb due.checked 0) done in
         leaves_none old now all _ left (rw (← same, eqb-true due.skipped 0 none.0, eqb-true due.checked 0 none.1) (nothing-due ctx (view_of sheet i e)))
+
+pub ruleset types_rules = (types_passed, types_end, no_bit)

@@ -104,6 +104,7 @@ fn check_due_type(
 }
 
 // Adds rules 6 to 12 of the type, part by part.
+#[tactic(auto, using(crate::proofs::Walk::types_rules))]
 fn check_types(context: ValidationContext, violations: &mut Violations, ty: RecordRange)
     ensures { Adds violations.old violations.new (type_violations (context_in context.entry) (records_in context.entry ty)) }
 {

@@ -1,34 +1,18 @@
-use Rattle.std.proofs.Common.{sym, ◌∙◌, arith, leb-true, leb-false}
+use Rattle.std.proofs.Common.{sym, ◌∙◌, arith, leb-true}
 use Rattle.types.specs.Due.{stack_of}
 use Rattle.types.proofs.Left.{leaves_all}
-use Rattle.types.proofs.Passed.{no_bit}
-use Rattle.types.proofs.Walk.{types_passed, types_told, types_end, types_done}
+use Rattle.types.proofs.Walk.{types_told, types_end, types_done}
 use Rattle.types.proofs.field_type.check_types.Goals as goal
 
 pub loop-i-init : goal.loop-i-init
 unfolding stack_of
 loop-i-init c = record { few = omega arith; left = leaves_all _ _ }
 
-pub loop-i-preserved-then-is_passed : goal.loop-i-preserved-then-is_passed
-loop-i-preserved-then-is_passed c =
-    record {
-      few = omega arith;
-      left = types_passed _ _ _ _ _ _ _ _ c.loop-i.invariant.left c.loop-i-test.true (sym c.is_passed.ensures ∙ c.if-is_passed.true);
-    }
-
 pub returns-then-is_empty : goal.returns-then-is_empty
 returns-then-is_empty c =
     types_end _ _ _ _ _ _ _ _
     (types_told _ _ _ _ _ _ _ _ c.loop-i.invariant.left _ c.loop-i-test.true (sym c.is_passed.ensures ∙ c.if-is_passed.false) c.check_due_type.ensures)
     (leb-true _ _ (sym c.is_empty.ensures ∙ c.if-is_empty.true))
-
-pub after-due-requires-clause-room : goal.after-due-requires-clause-room
-after-due-requires-clause-room c =
-    let more = leb-false _ _ (sym c.is_empty.ensures ∙ c.if-is_empty.false) in
-    omega arith
-
-pub after-due-requires-clause-is_type : goal.after-due-requires-clause-is_type
-after-due-requires-clause-is_type c = λ bit. no_bit c.args.context.sheet.now c.loop-i.i (sym c.is_passed.ensures ∙ c.if-is_passed.false) (sym c.kind-kind.ensures ∙ bit)
 
 pub returns-then-due : goal.returns-then-due
 returns-then-due c =
@@ -46,6 +30,3 @@ loop-i-preserved c =
           rw (c.after-due.ensures.stack, c.kind-kind.ensures)
           (types_told _ _ _ _ _ _ _ _ c.loop-i.invariant.left _ c.loop-i-test.true (sym c.is_passed.ensures ∙ c.if-is_passed.false) c.check_due_type.ensures);
     }
-
-pub returns : goal.returns
-returns c = types_end _ _ _ _ _ _ _ _ c.loop-i.invariant.left c.loop-i-test.false
