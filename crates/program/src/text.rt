@@ -7,7 +7,8 @@ use report::SIZE;
 // The bytes that always hold the list.
 const LIST: usize = 36864;
 
-// Writes the lines to the start of `out`, whose other bytes are kept, and returns how many bytes they are.
+// Writes the lines to the start of `out`, whose other bytes are kept, and returns how many bytes they are. A slice of `out` could not say
+// that the others are kept.
 pub fn lines(sheet: &[u8], names: &[u8], out: &mut [u8; SIZE]) -> usize
     ensures { (result ≡ length (printed sheet.now names.now)) × (out.new ≡ printed sheet.now names.now ++ drop result out.old) × (result ≤ length out.new) }
 {

@@ -12,6 +12,7 @@ ghost use Rattle.recorded.specs.Answer.{is_answer};
 
 pub use buffer::VIOLATION;
 pub use replay::{BUFFERS, Case, LIST, MOST_VIOLATIONS, same_buffers};
+use rules::AnswerValues;
 pub use single::is_single_field;
 
 // The greatest number of a refusal.
@@ -36,12 +37,12 @@ pub fn is_magic(first: u32, second: u32) -> bool
 // Whether a check can answer so: an accepted sheet has index 0 and no more errors than violations,
 // a refused one has neither.
 #[tactic(auto, unfolding(crate::specs::Answer::is_answer))]
-pub fn is_answer(number: u32, index: u32, total: u32, errors: u32) -> bool
-    ensures { result ≡ is_answer number index total errors }
+pub fn is_answer(answer: AnswerValues) -> bool
+    ensures { result ≡ is_answer answer.number answer.index answer.total answer.errors }
 {
-    if number == 0 {
-        index == 0 && errors <= total
+    if answer.number == 0 {
+        answer.index == 0 && answer.errors <= answer.total
     } else {
-        number <= LAST_REFUSAL && total == 0 && errors == 0
+        answer.number <= LAST_REFUSAL && answer.total == 0 && answer.errors == 0
     }
 }

@@ -4,7 +4,7 @@ ghost use Rattle.recorded.specs.Replay.{records_of, is_single_field};
 
 use sheet::kinds::{FIELD, HEAD};
 
-// The sub of a message's head.
+// The sub of a message's head, as a sheet's bytes have it.
 const MESSAGE: u8 = 0;
 
 // How many records are of that kind and sub.

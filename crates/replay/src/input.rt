@@ -58,7 +58,7 @@ fn next_answer(file: &mut impl Read) -> Result<AnswerValues, Fault> {
         total: next_number(file)?,
         errors: next_number(file)?,
     };
-    if recorded::is_answer(answer.number, answer.index, answer.total, answer.errors) {
+    if recorded::is_answer(answer) {
         Ok(answer)
     } else {
         Err(Fault)

@@ -20,7 +20,7 @@ fn told(total: u32, len: usize) -> usize
     usize::min(MOST, usize::min(total as usize, len / Violation::SIZE))
 }
 
-// Puts the lines behind a text.
+// Puts the lines behind a text. The number is 0 where the sheet is accepted, as callers in C see it.
 fn put_lines(text: &mut Text, values: AnswerValues, list: &[u8])
     requires { text.old.len + 107555 ≤ length text.old.buffer.now }
     ensures adds { Adds text.old text.new (lines_of values list.now) }
@@ -34,7 +34,8 @@ fn put_lines(text: &mut Text, values: AnswerValues, list: &[u8])
     }
 }
 
-// Writes the lines to the start of `out`, whose other bytes are kept, and returns how many bytes they are.
+// Writes the lines to the start of `out`, whose other bytes are kept, and returns how many bytes they are. A slice of `out` could not say
+// that the others are kept.
 pub fn report(values: AnswerValues, list: &[u8], out: &mut [u8; SIZE]) -> usize
     ensures { (result ≡ length (lines_of values list.now)) × (out.new ≡ lines_of values list.now ++ drop result out.old) × (result ≤ length out.new) }
 {
