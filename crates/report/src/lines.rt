@@ -36,6 +36,7 @@ fn put_violation(text: &mut Text, violation: Violation)
 }
 
 // Puts the lines of the first `n` violations of the list.
+#[tactic(auto, using(crate::proofs::LineTexts::lines_none), unfolding(crate::specs::Put::put))]
 pub fn put_violations(text: &mut Text, list: &[u8], n: usize)
     requires { (text.old.len + 35 * n ≤ length text.old.buffer.now) × (12 * n ≤ length list.now) }
     ensures adds { Adds text.old text.new (violation_lines n list.now) }

@@ -1,17 +1,13 @@
 -- `report::lines::put_violations` meets its contract: a turn puts the line of one violation more.
-use Rattle.std.proofs.Common.{◌++◌, ◌*◌, refl, ap, sym, subst, ◌∙◌, arith}
+use Rattle.std.proofs.Common.{◌++◌, ◌*◌, ap, sym, subst, ◌∙◌, arith}
 use Rattle.std.proofs.lemmas.List.{take_rest}
 use Rattle.rules.specs.Buffer.{decode_violation}
 use Rattle.rules.specs.Printed.{violation_line}
-use Rattle.report.specs.Put.{Adds, put}
+use Rattle.report.specs.Put.{Adds}
 use Rattle.report.specs.Lines.{violation_lines}
-use Rattle.report.proofs.LineTexts.{lines_none, lines_more}
+use Rattle.report.proofs.LineTexts.{lines_more}
 use Rattle.report.proofs.Puts.{adds_then}
 use Rattle.report.proofs.lines.put_violations.Goals as goal
-
-pub loop-i-init : goal.loop-i-init
-unfolding put
-loop-i-init c = record { adds = rw lines_none (record { reference = refl; state = refl; place = omega arith; room = refl }); short = omega arith }
 
 pub loop-i-preserved : goal.loop-i-preserved
 loop-i-preserved c =
