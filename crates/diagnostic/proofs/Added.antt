@@ -3,9 +3,9 @@ use Rattle.std.proofs.Common.{◌≡◌, ℕ, Bool, true, List, [], ◌++◌, re
 use Rattle.rules.specs.declared.span.Span.{Span}
 use Rattle.rules.specs.Rule.{Found, found_if, violation}
 use Rattle.diagnostic.specs.declared.violations.Violations.{Violations}
-use Rattle.diagnostic.specs.Push.{push_one, push_if, push_found}
+use Rattle.diagnostic.specs.Push.{push_one, push_if}
 use Rattle.diagnostic.specs.Violations.{state_of, Adds}
-use Rattle.diagnostic.proofs.FoundPushes.{found-append, found_none, found-if, found-then}
+use Rattle.diagnostic.proofs.FoundPushes.{found_none, found-if, found-then}
 
 -- nothing is added
 pub adds_none : (vs : Violations) → Adds vs vs []

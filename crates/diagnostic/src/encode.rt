@@ -1,39 +1,29 @@
-// Numbers and violations as bytes, little-endian, in a buffer that has room for them.
-ghost use Rattle.std.specs.Prelude.{◌≡◌, ◌+◌, ◌≤◌, length};
-ghost use Rattle.std.proofs.lemmas.List.Edits.{sets};
-ghost use Rattle.rules.specs.Words.{bytes};
-ghost use Rattle.rules.specs.Buffer.{encode, violation_size};
+// A violation as bytes, little-endian.
+ghost use Rattle.std.specs.Prelude.{◌≡◌};
+ghost use Rattle.rules.specs.Buffer.{encode};
 
 use rules::Violation;
 
-// Writes the two bytes of `half` from `at`.
-pub fn put16(list: &mut [u8], at: usize, half: u16)
-    requires { at + 2 ≤ length list.old }
-    ensures { list.new ≡ sets list.old at (bytes 2 half) }
+// The twelve bytes of the violation.
+#[tactic(auto, unfolding(rules::specs::Buffer::encode, rules::specs::Words::bytes))]
+pub fn encode(violation: Violation) -> [u8; Violation::SIZE]
+    ensures { result ≡ encode violation }
 {
-    list[at] = (half % 256) as u8;
-    list[at + 1] = (half / 256 % 256) as u8;
-}
-
-// Writes the four bytes of `word` from `at`.
-pub fn put32(list: &mut [u8], at: usize, word: u32)
-    requires { at + 4 ≤ length list.old }
-    ensures { list.new ≡ sets list.old at (bytes 4 word) }
-{
-    list[at] = (word % 256) as u8;
-    list[at + 1] = (word / 256 % 256) as u8;
-    list[at + 2] = (word / 256 / 256 % 256) as u8;
-    list[at + 3] = (word / 256 / 256 / 256 % 256) as u8;
-}
-
-// Writes the twelve bytes of the violation from `at`.
-pub fn put_violation(list: &mut [u8], at: usize, violation: Violation)
-    requires { at + violation_size ≤ length list.old }
-    ensures { list.new ≡ sets list.old at (encode violation) }
-{
-    put16(list, at, violation.class);
-    list[at + 2] = violation.severity;
-    list[at + 3] = 0;
-    put32(list, at + 4, violation.span.offset);
-    put32(list, at + 8, violation.span.len);
+    let class = violation.class.to_le_bytes();
+    let offset = violation.span.offset.to_le_bytes();
+    let len = violation.span.len.to_le_bytes();
+    [
+        class[0],
+        class[1],
+        violation.severity,
+        0,
+        offset[0],
+        offset[1],
+        offset[2],
+        offset[3],
+        len[0],
+        len[1],
+        len[2],
+        len[3],
+    ]
 }

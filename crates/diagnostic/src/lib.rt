@@ -5,5 +5,4 @@ mod encode;
 mod list;
 mod violations;
 
-pub use list::{push, push_if};
 pub use violations::Violations;

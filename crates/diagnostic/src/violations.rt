@@ -4,7 +4,7 @@ ghost use Rattle.rules.specs.Record.{record_bytes, span_in};
 ghost use Rattle.diagnostic.specs.Push.{push_one, push_if};
 ghost use Rattle.diagnostic.specs.Violations.{state_of};
 
-use crate::list;
+use crate::list::{count_one, store};
 use rules::{Counts, Violation};
 
 #[derive(Drop)]
@@ -28,12 +28,13 @@ impl<'a> Violations<'a> {
         }
     }
 
-    // Adds the violation.
+    // Adds the violation: writes it if there is room for it, and counts it in any case.
     pub fn push(&mut self, violation: Violation)
         ensures reference { self.new.list.ghost_name ≡ self.old.list.ghost_name }
         ensures state { state_of self.new ≡ push_one violation (state_of self.old) }
     {
-        self.counts = list::push(self.list, self.counts, violation);
+        store(self.list, self.counts.total, violation);
+        self.counts = count_one(self.counts, violation.severity);
     }
 
     // Adds the violation if `bad`.
