@@ -2,7 +2,9 @@
 ghost use Rattle.rules.specs.Answer.{values_of};
 ghost use Rattle.validate.specs.Answered.{Answered};
 
-use rules::{Answer, Counts};
+use diagnostic::Violations;
+use names::ValidationContext;
+use rules::Answer;
 
 // Answers for a sheet and a names text, and lists the violations.
 #[tactic(auto, using(crate::proofs::Answers::refused_told, crate::proofs::Answers::refused_kept))]
@@ -11,9 +13,11 @@ pub fn check(sheet: &[u8], names: &[u8], list: &mut [u8]) -> Answer
 {
     let mut table = [0; 5122];
     refusals::accept(sheet, names, &mut table)?;
-    let counts = Counts {
-        total: 0,
-        errors: 0,
+    let context = ValidationContext {
+        sheet,
+        table: &table,
     };
-    Ok(bodies::check_declaration(sheet, &table, list, counts))
+    let mut violations = Violations::new(list);
+    bodies::check_declaration(context, &mut violations);
+    Ok(violations.counts)
 }
