@@ -46,10 +46,8 @@ fn is_invalid_end(context: ValidationContext, i: usize) -> bool
     match sheet::kind(context.sheet, i) {
         kinds::NAMED => is_without_key(context, i),
         kinds::PRIMITIVE => {
-            matches!(
-                sheet::sub(context.sheet, i),
-                subs::F32 | subs::F64 | subs::VOID
-            )
+            let sub = sheet::sub(context.sheet, i);
+            matches!(sub, subs::F32 | subs::F64 | subs::VOID)
         }
         kind => matches!(kind, kinds::OPTIONAL..=kinds::ARRAY | kinds::SET..=kinds::RESULT),
     }
