@@ -7,3 +7,4 @@ pub mod Known
 pub mod Same
 pub mod SameEnds
 pub mod Code
+pub mod NamedRecord

@@ -6,7 +6,7 @@ ghost use Rattle.names.specs.Same.{same_at};
 
 // Whether the `n` bytes from `at` on are the same. No byte ends the loop early, so that many are compared at once.
 #[tactic(auto, using(crate::proofs::Same::windows), unfolding(crate::specs::Same::same_at))]
-pub fn window_same(a: &[u8], b: &[u8], at: usize, n: usize) -> bool
+fn window_same(a: &[u8], b: &[u8], at: usize, n: usize) -> bool
     requires { (at + n ≤ length a.now) × (at + n ≤ length b.now) }
     ensures { result ≡ passes (same_at a.now b.now) at n }
 {

@@ -1,8 +1,8 @@
 // Where the name of a record is met first: the id.
 ghost use Rattle.std.specs.Prelude.{◌≡◌, true, List, ℕ, ◌+◌, ◌≤◌, ◌<◌, MatchOption};
-ghost use Rattle.names.specs.NameTable.{id_in, is_keyed};
-ghost use Rattle.names.specs.Parts.{known, record_of};
+ghost use Rattle.names.specs.NameTable.{is_keyed};
 ghost use Rattle.names.specs.Buckets.{bucket_of, Chained};
+ghost use Rattle.names.specs.NamedRecord.{named_record, id_of, ChainedBefore};
 
 use crate::asked::is_compared;
 use crate::compare::same_bytes;
@@ -10,8 +10,8 @@ use crate::hash::bucket;
 use crate::layout;
 use crate::own::{Named, name_at};
 
-// The records that are the first with their name, in a chain for each bucket: the place of the last of each bucket, and of the one before each record.
-// A place is 0 where there is none, as in the table.
+// The records that are the first with their name, in a chain for each bucket: the place of the last of each bucket, and of the one before
+// each record. A place is 0 where there is none, as in the table.
 #[derive(Drop)]
 pub struct Chains {
     heads: [u16; layout::PART],
@@ -29,11 +29,12 @@ impl Chains {
         }
     }
 
-    // The id of a record whose name is compared, if the chain of its bucket, which has all first records before it, has a record with the name.
+    // The id of a record whose name is compared, if the chain of its bucket, which has all first records before it, has a record with
+    // the name.
     #[tactic(auto, using(crate::proofs::Leads::walks))]
     fn find(&self, named: &Named, bucket: usize) -> Option<usize>
-        requires { (is_keyed (record_of named.now.sheet.now named.now.names.now named.now.index) ≡ true) × (bucket ≡ bucket_of named.now.name.now) × (bucket < 1024) × Chained named.now.sheet.now named.now.names.now self.now.heads self.now.links named.now.index }
-        ensures { MatchOption result (id_in (known named.now.sheet.now named.now.names.now) named.now.index (record_of named.now.sheet.now named.now.names.now named.now.index) ≡ named.now.index) (λ id. (id ≡ id_in (known named.now.sheet.now named.now.names.now) named.now.index (record_of named.now.sheet.now named.now.names.now named.now.index)) × (id < named.now.index)) }
+        requires { (is_keyed (named_record named.now) ≡ true) × (bucket ≡ bucket_of named.now.name.now) × (bucket < 1024) × ChainedBefore named.now self.now.heads self.now.links }
+        ensures { MatchOption result (id_of named.now ≡ named.now.index) (λ id. (id ≡ id_of named.now) × (id < named.now.index)) }
     {
         // A walk along a chain, each turn of which reads where the next one goes on.
         let mut place = usize::from(self.heads[bucket]);
@@ -47,11 +48,12 @@ impl Chains {
         None
     }
 
-    // The id of the record. A record that is the first with its name is put at the head of its bucket's chain; a record whose name is not compared is its own.
+    // The id of the record. A record that is the first with its name is put at the head of its bucket's chain; a record whose name is not
+    // compared is its own.
     #[tactic(auto, using(crate::proofs::Known::known_bounds))]
     pub fn next_id(&mut self, named: &Named) -> usize
-        requires { Chained named.now.sheet.now named.now.names.now self.old.heads self.old.links named.now.index }
-        ensures { (result ≡ id_in (known named.now.sheet.now named.now.names.now) named.now.index (record_of named.now.sheet.now named.now.names.now named.now.index)) × (result ≤ named.now.index) × Chained named.now.sheet.now named.now.names.now self.new.heads self.new.links (named.now.index + 1) }
+        requires { ChainedBefore named.now self.old.heads self.old.links }
+        ensures { (result ≡ id_of named.now) × (result ≤ named.now.index) × Chained named.now.sheet.now named.now.names.now self.new.heads self.new.links (named.now.index + 1) }
     {
         let index = named.index;
         if !is_compared(named.kind) {

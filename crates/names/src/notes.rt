@@ -1,8 +1,8 @@
 // What is noted at an id while the records are read, and spread to all records with that id after. A place is an index and one more; 0 is none.
 ghost use Rattle.std.specs.Prelude.{◌≡◌, ◌+◌, ◌<◌};
-ghost use Rattle.names.specs.NameTable.{id_in};
+ghost use Rattle.names.specs.NamedRecord.{id_of};
 ghost use Rattle.names.specs.Notes.{set_first, Read, Spread};
-ghost use Rattle.names.specs.Parts.{known, known_count, record_of};
+ghost use Rattle.names.specs.Parts.{known_count};
 
 use crate::layout;
 use crate::own::Named;
@@ -23,7 +23,7 @@ fn note_declaration(table: &mut [u16; layout::SIZE], i: usize, id: usize)
 // Notes what the record says of its name, which has that id.
 #[tactic(auto, using(crate::proofs::Noting::notes))]
 pub fn note(named: &Named, table: &mut [u16; layout::SIZE], id: usize)
-    requires { (id < 1024) × (id ≡ id_in (known named.now.sheet.now named.now.names.now) named.now.index (record_of named.now.sheet.now named.now.names.now named.now.index)) × Read named.now.sheet.now named.now.names.now table.old (named.now.index + 1) named.now.index }
+    requires { (id < 1024) × (id ≡ id_of named.now) × Read named.now.sheet.now named.now.names.now table.old (named.now.index + 1) named.now.index }
     ensures { Read named.now.sheet.now named.now.names.now table.new (named.now.index + 1) (named.now.index + 1) }
 {
     match named.kind {

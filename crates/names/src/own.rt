@@ -7,7 +7,7 @@ ghost use Rattle.names.specs.Parts.{known_count, record_of};
 use rules::Sheet;
 
 // The bytes of record `i`.
-pub fn own_bytes(sheet: &[u8], i: usize) -> &[u8]
+fn own_bytes(sheet: &[u8], i: usize) -> &[u8]
     requires { i < length sheet.now / 32 }
     ensures { result.now ≡ record_bytes sheet.now i }
 {
@@ -15,16 +15,16 @@ pub fn own_bytes(sheet: &[u8], i: usize) -> &[u8]
     &sheet[at..at + Sheet::RECORD]
 }
 
-// The name of the first record, if it has one and the name fits.
+// The name of the record with these bytes, if it has one and the name fits.
 #[tactic(auto, using(crate::proofs::Numbers::named_by, crate::proofs::Numbers::name_by, crate::proofs::Numbers::rest_part))]
-pub fn own_name<'a>(sheet: &[u8], names: &'a [u8]) -> Option<&'a [u8]>
-    ensures { MatchOption result (is_named (record_of sheet.now names.now 0) ≡ false) (λ name. (is_named (record_of sheet.now names.now 0) ≡ true) × (name.now ≡ name_in names.now (record_bytes sheet.now 0))) }
+fn own_name<'a>(own: &[u8], names: &'a [u8]) -> Option<&'a [u8]>
+    ensures { MatchOption result (is_named (record_of own.now names.now 0) ≡ false) (λ name. (is_named (record_of own.now names.now 0) ≡ true) × (name.now ≡ name_in names.now (record_bytes own.now 0))) }
 {
-    if !sheet::has_name(sheet, 0) {
+    if !sheet::has_name(own, 0) {
         return None;
     }
-    let start = sheet::name_offset(sheet, 0);
-    let len = sheet::name_len(sheet, 0);
+    let start = sheet::name_offset(own, 0);
+    let len = sheet::name_len(own, 0);
     names.get(start..)?.get(..len)
 }
 
