@@ -88,9 +88,9 @@ abbrev pub item_step_of : Result Item Refusal → List Due → Grammar.Step Fiel
 item_step_of (Ok item) ds = Grammar.to (field_list_of item ds)
 item_step_of (Err why) ds = Grammar.fault (number_of why)
 
-abbrev pub step_of : Result State Refusal → List Due → Grammar.Step Grammar.State
-step_of (Ok s) ds = Grammar.to (state_of s ds)
-step_of (Err why) ds = Grammar.fault (number_of why)
+abbrev pub step_of : Result (Unit {0}) Refusal → State → List Due → Grammar.Step Grammar.State
+step_of (Ok taken) s ds = Grammar.to (state_of s ds)
+step_of (Err why) s ds = Grammar.fault (number_of why)
 
 -- before the first record
 abbrev pub start_state : State

@@ -8,7 +8,6 @@ ghost use Rattle.refusals.specs.Pass.{is_second, or_second, record_step_by, firs
 
 use crate::bytes::{byte, is_newtype};
 use crate::due::Due;
-use crate::machine::{may_end, start, step};
 use crate::own::own_fault;
 use crate::runs::run_end;
 use crate::state::State;
@@ -30,19 +29,19 @@ fn grammar_step(
     sheet: &[u8],
     table: &[u16; 5122],
     due: &mut Due,
-    s: State,
+    state: &mut State,
     i: usize,
-) -> Result<State, Refusal>
+) -> Result<(), Refusal>
     requires { (i < 1024) × (i < length sheet.now / 32) }
-    ensures { step_of result due.new ≡ or_second (eqb (kind_in (record_bytes sheet.now i)) 1 && is_second table.now i) (Grammar.step (state_of s due.old) (bare (kind_in (record_bytes sheet.now i)) (sub_in (record_bytes sheet.now i)))) }
+    ensures { step_of result state.new due.new ≡ or_second (eqb (kind_in (record_bytes sheet.now i)) 1 && is_second table.now i) (Grammar.step (state_of state.old due.old) (bare (kind_in (record_bytes sheet.now i)) (sub_in (record_bytes sheet.now i)))) }
 {
     let kind = sheet::kind(sheet, i);
     let sub = byte(sheet, i, 1);
-    let State { body, item } = step(due, s, kind, sub)?;
+    state.step(due, kind, sub)?;
     if (kind == kinds::DECLARATION) && is_second(table, i) {
         return Err(Refusal::SecondDeclaration); // row 8
     }
-    Ok(State { body, item })
+    Ok(())
 }
 
 // Rows 3 to 8 at record `i`, the lowest number first.
@@ -52,14 +51,14 @@ fn record_step(
     names: &[u8],
     table: &[u16; 5122],
     due: &mut Due,
-    s: State,
+    state: &mut State,
     i: usize,
-) -> Result<State, Refusal>
+) -> Result<(), Refusal>
     requires { (i < 1024) × (i < length sheet.now / 32) }
-    ensures { step_of result due.new ≡ record_step_by (is_second table.now i) (state_of s due.old) (decode names.now (record_bytes sheet.now i)) }
+    ensures { step_of result state.new due.new ≡ record_step_by (is_second table.now i) (state_of state.old due.old) (decode names.now (record_bytes sheet.now i)) }
 {
     own_fault(sheet, names, i)?;
-    grammar_step(sheet, table, due, s, i)
+    grammar_step(sheet, table, due, state, i)
 }
 
 // Where the newtypes end that come before record `i` or are record `i`.
@@ -81,26 +80,25 @@ pub fn first_fault(sheet: &[u8], names: &[u8], table: &[u16; 5122]) -> Result<us
 {
     let mut due = Due::new();
     let n = sheet::records(sheet);
-    let mut s = start();
+    let mut state = State::start();
     let mut i = 0;
     let mut end = 0;
     while i < n {
-        match record_step(sheet, names, table, &mut due, s, i) {
+        match record_step(sheet, names, table, &mut due, &mut state, i) {
             Err(refusal) => {
                 return Err(Refused {
                     refusal,
                     index: i as u32,
                 });
             }
-            Ok(State { body, item }) => {
-                s = State { body, item };
+            Ok(()) => {
                 end = newtypes_end(sheet, end, i);
                 // A run is as long as its records make it, so that no `for` can step here.
-                i = run_end(sheet, names, &mut due, s, i + 1, n);
+                i = run_end(sheet, names, &mut due, state, i + 1, n);
             }
         }
     }
-    if may_end(&due, s) {
+    if state.may_end(&due) {
         return Ok(end);
     }
     Err(Refused {

@@ -4,7 +4,7 @@ use Rattle.refusals.proofs.Passes.{pass_fault, pass_again, pass_done, pass_early
 use Rattle.refusals.proofs.pass.first_fault.Goals as goal
 
 pub loop-i-init : goal.loop-i-init
-loop-i-init c = (omega arith, pass_starts _ _ _ _ _ c.start-s.ensures c.new-due.ensures, none_ended _)
+loop-i-init c = (omega arith, pass_starts _ _ _ _ _ c.start-state.ensures c.new-due.ensures, none_ended _)
 
 pub returns-in-Err : goal.returns-in-Err
 returns-in-Err c =
