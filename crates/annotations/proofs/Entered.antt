@@ -5,20 +5,19 @@ use mathlib.Core.List.{List}
 use lib.ListN.{set}
 use borrow.Author.Tests.{eq-eqb, ne_eqb}
 use Rattle.rules.specs.Record.{kind_in, record_bytes}
-use Rattle.names.specs.declared.context.ValidationContext.{ValidationContext}
 use Rattle.names.specs.Known.{table_of}
 use Rattle.names.specs.View.{view_at, entry_of, id_part}
-use Rattle.annotations.specs.MetSlots.{HasNames}
+use Rattle.annotations.specs.declared.named.NamedRecords.{NamedRecords}
+use Rattle.annotations.specs.Named.{HasNames}
 use Rattle.annotations.proofs.Slots.{slotted-other, slotted-added}
 
-module _ (context : ValidationContext) (kind start : ℕ) where
-  module _ (slots : List ℕ) (i k : ℕ) (before : HasNames context kind start slots i) (hk : k ≡ kind_in (record_bytes context.sheet.now i)) where
-    pub passed-by : (k ≡ kind → ⊥) → HasNames context kind start slots (i + 1)
-    unfolding view_at
-    passed-by other = slotted-other _ _ _ slots i (ne_eqb _ _ (λ e. other (hk ∙ e))) before
+module _ (records : NamedRecords) (slots : List ℕ) (i k : ℕ) (before : HasNames records slots i) (hk : k ≡ kind_in (record_bytes records.context.sheet.now i)) where
+  pub passed-by : (k ≡ records.kind → ⊥) → HasNames records slots (i + 1)
+  unfolding view_at
+  passed-by other = slotted-other _ _ _ slots i (ne_eqb _ _ (λ e. other (hk ∙ e))) before
 
-    pub entered :
-        (id b place : ℕ) → k ≡ kind → id ≡ entry_of id_part (table_of context) i → b ≡ id % 1024 → place ≡ i + 1 →
-        HasNames context kind start (set slots b place) (i + 1)
-    unfolding view_at
-    entered id b place here hi hb hp = slotted-added _ _ _ slots i id b place (eq-eqb _ _ (sym hk ∙ here)) hi hb hp before
+  pub entered :
+      (id b place : ℕ) → k ≡ records.kind → id ≡ entry_of id_part (table_of records.context) i → b ≡ id % 1024 → place ≡ i + 1 →
+      HasNames records (set slots b place) (i + 1)
+  unfolding view_at
+  entered id b place here hi hb hp = slotted-added _ _ _ slots i id b place (eq-eqb _ _ (sym hk ∙ here)) hi hb hp before

@@ -9,6 +9,7 @@ use lib.ListN.{get_or, set, replicate, length-set, length-replicate}
 use lib.Seq.{get_or-set_same, get_or-set_other}
 use lib.Dec.{eqb}
 use borrow.Author.Tests.{eq-eqb, ne_eqb, eqb-true}
+use Rattle.annotations.proofs.Asked.{SomeFrom}
 use Rattle.annotations.specs.Slots.{has_key, Behind, Slotted, Ready}
 
 -- no slot has a record yet
@@ -110,18 +111,13 @@ module _ (on : ℕ → Bool) (key : ℕ → ℕ) (a : ℕ) where
         sym (has-among v (i - a) (q - 1 - a) (omega (arith, last-there.0)) (ap on back ∙ (last-there.2 h).0) (ap key back ∙ sym hk ∙ e))
 
   -- all were asked
-  pub all-asked :
-      (v i : ℕ) (r : Bool) → (r ≡ true → (j : ℕ) × (a ≤ j) × (j < i) × (on j && eqb v (key j) ≡ true)) →
-      (r ≡ false → (j : ℕ) → a ≤ j → j < i → on j && eqb v (key j) ≡ false) → r ≡ has_key on key a v (i - a)
+  pub all-asked : (v i : ℕ) (r : Bool) → SomeFrom (λ j. on j && eqb v (key j)) a i r → r ≡ has_key on key a v (i - a)
   unfolding has_key
-  all-asked v i true some none = go (some refl)
-    where
-      go : (j : ℕ) × (a ≤ j) × (j < i) × (on j && eqb v (key j) ≡ true) → true ≡ has_key on key a v (i - a)
-      go h =
-          let back : a + (h.0 - a) ≡ h.0 = omega arith in
-          let both = and-both (on h.0) (eqb v (key h.0)) h.3 in
-          sym (has-among v (i - a) (h.0 - a) (omega arith) (ap on back ∙ both.0) (ap key back ∙ sym (eqb-true v (key h.0) both.1)))
-  all-asked v i false some none = sym (never (i - a) (λ m l. none refl (a + m) (omega arith) (omega arith)))
+  all-asked v i true h =
+      let back : a + (h.0 - a) ≡ h.0 = omega (arith, h.1) in
+      let both = and-both (on h.0) (eqb v (key h.0)) h.3 in
+      sym (has-among v (i - a) (h.0 - a) (omega (arith, h.1, h.2)) (ap on back ∙ both.0) (ap key back ∙ sym (eqb-true v (key h.0) both.1)))
+  all-asked v i false none = sym (never (i - a) (λ m l. none (a + m) (omega arith) (omega arith)))
     where
       never : (n : ℕ) → ((m : ℕ) → m < n → on (a + m) && eqb v (key (a + m)) ≡ false) → has_key on key a v n ≡ false
       never zero h = refl

@@ -1,8 +1,7 @@
 pub mod AnnotationAt
 pub mod Slots
 pub mod Met
-pub mod MetSlots
-pub mod MetRow
+pub mod Named
 pub mod WordOf
 pub mod Target
 pub mod Each

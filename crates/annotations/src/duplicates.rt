@@ -6,7 +6,8 @@ ghost use Rattle.diagnostic.specs.Violations.{Adds};
 ghost use Rattle.annotations.specs.Earlier.{is_compared_at, repeats_at};
 
 use crate::arguments::is_annotation;
-use crate::met::{MetNames, is_among};
+use crate::met::MetNames;
+use crate::named::NamedRecords;
 use crate::word::{Word, is_word};
 use diagnostic::Violations;
 use names::ValidationContext;
@@ -29,7 +30,12 @@ fn is_compared(context: ValidationContext, i: usize) -> bool
 pub fn is_duplicate(context: ValidationContext, start: usize, i: usize) -> bool
     ensures { result ≡ repeats_at (table_of context.entry) context.entry.sheet.now start i }
 {
-    is_compared(context, i) && is_among(context, kinds::ANNOTATION, start, i, context.id(i))
+    let annotations = NamedRecords {
+        context,
+        kind: kinds::ANNOTATION,
+        start,
+    };
+    is_compared(context, i) && annotations.has_name(i, context.id(i))
 }
 
 // The same, by the names that are met.
@@ -52,7 +58,8 @@ fn check_few(context: ValidationContext, violations: &mut Violations, annotation
     }
 }
 
-// Adds the same violations where they are many: each is in its name's slot. For few, to clear the slots would cost more than to compare them.
+// Adds the same violations where they are many: each is in its name's slot. For few, to clear the slots costs more than to compare them; a loop for both
+// would need a trait for what it asks, which is longer than the loop.
 fn check_row(context: ValidationContext, violations: &mut Violations, annotations: RecordRange)
     ensures { Adds violations.old violations.new (duplicate_annotations (context_in context.entry) [] (annotations_of (records_in context.entry annotations))) }
 {

@@ -9,6 +9,7 @@ mod duplicates;
 mod field;
 mod limit;
 mod met;
+mod named;
 mod word;
 
 pub use deprecated::check_deprecated_has_reason;

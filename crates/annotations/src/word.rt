@@ -1,4 +1,4 @@
-// words
+// The words that annotations and arguments know.
 ghost use Rattle.std.specs.Prelude.{◌≡◌, eqb};
 ghost use Rattle.names.specs.Known.{table_of};
 ghost use Rattle.names.specs.View.{entry_of, code_part};

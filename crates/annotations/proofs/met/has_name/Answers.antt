@@ -2,8 +2,8 @@
 use Rattle.annotations.proofs.Slots.{slot-none, slot-found}
 use Rattle.annotations.proofs.met.has_name.Goals as goal
 
-pub returns-then-behind-start : goal.returns-then-behind-start
-returns-then-behind-start c = slot-none _ _ _ _ _ _ _ _ c.requires c.slot.ensures.0 c.from-behind.ensures c.if-behind-start.true
+pub returns-then-behind-records : goal.returns-then-behind-records
+returns-then-behind-records c = slot-none _ _ _ _ _ _ _ _ c.requires c.slot.ensures.0 c.from-behind.ensures c.if-behind-records.true
 
 pub returns-then-id : goal.returns-then-id
-returns-then-id c = slot-found _ _ _ _ _ _ _ _ c.requires c.slot.ensures.0 c.from-behind.ensures _ c.if-behind-start.false c.id.ensures c.if-id.true
+returns-then-id c = slot-found _ _ _ _ _ _ _ _ c.requires c.slot.ensures.0 c.from-behind.ensures _ c.if-behind-records.false c.id.ensures c.if-id.true
