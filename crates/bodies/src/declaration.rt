@@ -18,7 +18,7 @@ use diagnostic::Violations;
 use names::ValidationContext;
 use rules::{RecordRange, Sheet};
 
-// The subs of a head. Any other is a newtype's.
+// The subs of a head, which stay numbers as all subs do. Any other is a newtype's.
 const MESSAGE: u8 = 0;
 
 const ENUM: u8 = 1;

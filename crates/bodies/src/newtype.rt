@@ -7,11 +7,7 @@ use crate::whole::WholeRecords;
 use diagnostic::Violations;
 use rules::Violation;
 use sheet::kinds;
-
-// The subs of the declarations over which no newtype may stand.
-const NEWTYPE: u8 = 4;
-
-const CONFIG: u8 = 5;
+use types::subs;
 
 // Adds what is wrong with the newtype whose inner type the records start with.
 pub fn check_newtype(body: WholeRecords, violations: &mut Violations)
@@ -24,9 +20,9 @@ pub fn check_newtype(body: WholeRecords, violations: &mut Violations)
     let inner = body.range.start;
     let named = sheet::kind(context.sheet, inner) == kinds::NAMED;
     // rule 37
-    let newtype = named & types::is_declared_as(context, NEWTYPE, inner);
+    let newtype = named & types::is_declared_as(context, subs::NEWTYPE, inner);
     violations.error_if(newtype, context.sheet, inner, Violation::NewtypeOverNewtype);
     // rule 38
-    let config = named & types::is_declared_as(context, CONFIG, inner);
+    let config = named & types::is_declared_as(context, subs::CONFIG, inner);
     violations.error_if(config, context.sheet, inner, Violation::NewtypeOverConfig);
 }

@@ -6,15 +6,7 @@ ghost use Rattle.conditions.specs.Taken.{taken, int_alone};
 
 use rules::RecordRange;
 use sheet::kinds;
-
-// The subs of the types that take a literal.
-const BOOL: u8 = 0;
-
-const F32: u8 = 9;
-
-const F64: u8 = 10;
-
-const STRING: u8 = 0;
+use types::subs;
 
 // Whether a type takes each kind of literal.
 #[derive(Clone, Copy)]
@@ -49,9 +41,9 @@ pub fn literals_of(sheet: &[u8], ty: RecordRange) -> Literals
     let sub = sheet::sub(sheet, first);
     Literals {
         int,
-        float: (kind == kinds::PRIMITIVE) & ((F32 <= sub) & (sub <= F64)),
-        string: (kind == kinds::SEMANTIC) & (sub == STRING),
-        boolean: (kind == kinds::PRIMITIVE) & (sub == BOOL),
+        float: (kind == kinds::PRIMITIVE) & ((subs::F32 <= sub) & (sub <= subs::F64)),
+        string: (kind == kinds::SEMANTIC) & (sub == subs::STRING),
+        boolean: (kind == kinds::PRIMITIVE) & (sub == subs::BOOL),
     }
 }
 

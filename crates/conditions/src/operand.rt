@@ -12,8 +12,9 @@ use diagnostic::Violations;
 use names::ValidationContext;
 use rules::Violation;
 use sheet::kinds;
+use types::subs;
 
-// The subs of an operand.
+// The subs of an operand, which are numbers as all subs are.
 const INT: u8 = 0;
 
 const FLOAT: u8 = 1;
@@ -22,15 +23,12 @@ const STRING: u8 = 2;
 
 const BOOL: u8 = 3;
 
-// The sub of a declaration of a constant.
-const CONST: u8 = 7;
-
 // Whether the name of record `i` is a declared constant's, or imported.
 #[tactic(auto, unfolding(names::specs::View::context_by))]
 fn is_known_const(context: ValidationContext, i: usize) -> bool
     ensures { result ≡ is_known_const (context_in context.entry) i }
 {
-    context.is_imported(i) || types::is_declared_as(context, CONST, i)
+    context.is_imported(i) || types::is_declared_as(context, subs::CONST, i)
 }
 
 // Whether an operand of that sub is a literal that a type with those literals does not take.

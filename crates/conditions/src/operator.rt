@@ -7,7 +7,7 @@ use diagnostic::Violations;
 use rules::Violation;
 use sheet::kinds;
 
-// The first and the last of the operators that order: Lt, Gt, Le and Ge.
+// The subs of the first and the last of the operators that order, Lt, Gt, Le and Ge: they stay numbers, since a range of them is asked for.
 const LT: u8 = 2;
 
 const GE: u8 = 5;
