@@ -16,7 +16,7 @@ use Rattle.diagnostic.specs.Push.{push_found}
 use Rattle.diagnostic.specs.Violations.{state_of, Adds}
 use Rattle.annotations.specs.Slots.{has_key}
 use Rattle.annotations.specs.Met.{Row, of_kind, is_met}
-use Rattle.conditions.proofs.Remaining.{Remains, remains_rest, remains_none}
+use Rattle.types.proofs.Left.{Leaves, leaves_rest, leaves_none}
 use Rattle.bodies.specs.declared.whole.WholeRecords.{WholeRecords}
 use Rattle.bodies.specs.declared.seen.Seen.{Seen}
 use Rattle.bodies.specs.declared.seen.ItemList.{ItemList}
@@ -90,7 +90,7 @@ module _ (fields : WholeRecords) where
     pub named : names ≡ names_in
     pub most : i ≤ e
     pub known : Known 11 12 sheet a e seen.tombstones seen.ordinals seen.marks seen.len i
-    pub found : Remains old now (field_list_violations (context_in fields.context) (view_of sheet a e)) (still i)
+    pub found : Leaves old now (field_list_violations (context_in fields.context) (view_of sheet a e)) (still i)
 
   -- the start of the list
   pub fields_none :
@@ -116,7 +116,7 @@ module _ (fields : WholeRecords) where
           named = k.named;
           most = omega arith;
           known = known-other 11 12 sheet a e seen.tombstones seen.ordinals seen.marks seen.len i k.known h test;
-          found = remains_rest old _ now now' _ _ (rw (field-other table sheet a e tombs i k.known.2 h test) at k.found) adds;
+          found = leaves_rest old now now' _ _ _ _ k.found (field-other table sheet a e tombs i k.known.2 h test) adds;
         }
 
     -- a record of a field's parts
@@ -148,8 +148,8 @@ module _ (fields : WholeRecords) where
     pub fields_end : (i : ℕ) → FieldsKnown seen names old now i → e ≤ i → Adds old now (field_list_violations (context_in fields.context) (view_of sheet a e))
     unfolding fields_left
     fields_end i k h =
-        remains_none old _ now
-        (rw (turn-none (context_in fields.context) field_scheme (field_item_violations (context_in fields.context)) starts_field_item 11 sheet a e tombs i h) at k.found)
+        leaves_none old now _ _ k.found
+        (turn-none (context_in fields.context) field_scheme (field_item_violations (context_in fields.context)) starts_field_item 11 sheet a e tombs i h)
 
   -- a field
   module _ (seen : Seen) (names : Row) (old now : Violations) (i kind ordinal : ℕ) (k : FieldsKnown seen names old now i) (h : i < e) (hk : kind ≡ kind_in (record_bytes sheet i)) (eq : kind ≡ 11) where
@@ -176,8 +176,8 @@ module _ (fields : WholeRecords) where
           most = omega arith;
           known = rw whole at known';
           found =
-              remains_rest old _ now now' _ _
-              (rw (field-turn table sheet a e tombs i end m.tombstoned m.met renamed k.known.2 h test ends.0 dead (ap₂ (λ g m. not g && m) dead met) (named ∙ has-names table sheet a i (i - a))) at k.found)
+              leaves_rest old now now' _ _ _ _ k.found
+              (field-turn table sheet a e tombs i end m.tombstoned m.met renamed k.known.2 h test ends.0 dead (ap₂ (λ g m. not g && m) dead met) (named ∙ has-names table sheet a i (i - a)))
               adds;
         } in
         fields_to seen' names' old now' (i + 1) end next (ends.2 (omega arith)) ends.1 ends.3

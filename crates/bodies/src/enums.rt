@@ -18,11 +18,12 @@ use sheet::kinds;
 fn check_variants(body: WholeRecords, violations: &mut Violations)
     ensures { Adds violations.old violations.new (list_violations (context_in body.entry.context) enum_scheme (λ it. []) (body_items (records_in body.entry.context body.entry.range))) }
 {
-    let mut seen = Seen::of(ItemList {
+    let mut seen = Seen::new(ItemList {
         records: body,
         item: kinds::VARIANT,
         tombstone: kinds::TOMBSTONE,
     });
+    seen.collect();
     for i in body.range.start..body.range.end {
         if body.kind(i) != kinds::VARIANT {
             continue;

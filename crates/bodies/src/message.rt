@@ -81,11 +81,12 @@ pub fn check_message_body(fields: WholeRecords, violations: &mut Violations, nam
     ensures names { AreOfFields fields.entry.context names.new }
 {
     names.restart(fields.range.start);
-    let mut seen = Seen::of(ItemList {
+    let mut seen = Seen::new(ItemList {
         records: fields,
         item: kinds::FIELD,
         tombstone: kinds::FIELD_TOMBSTONE,
     });
+    seen.collect();
     let mut i = fields.range.start;
     // a `for` cannot step by what it reads
     while i < fields.range.end {

@@ -65,7 +65,7 @@ fn are_optionals(records: WholeRecords, i: usize) -> bool
     requires { i + 4 ≤ records.range.end }
     ensures { result ≡ true → AllIn (is Kind.Optional) records.entry.context.sheet.now i (i + 4) }
 {
-    (i..i + 4).all(|j| records.kind(j) == kinds::OPTIONAL)
+    (0..4).all(|j| records.kind(i + j) == kinds::OPTIONAL)
 }
 
 // A record before which all are optionals, found by fours.

@@ -22,11 +22,11 @@ pub struct ItemList<'a> {
 // mark of a number is 0, the number is not among them. An ordinal that row 5 does not let through is not kept: whether it was met is asked of the records.
 #[derive(Drop)]
 pub struct Seen<'a> {
-    pub list: ItemList<'a>,
-    pub ordinals: [u32; 1024],
-    pub marks: [u8; 1021],
-    pub tombstones: usize,
-    pub len: usize,
+    list: ItemList<'a>,
+    ordinals: [u32; 1024],
+    marks: [u8; 1021],
+    tombstones: usize,
+    len: usize,
 }
 
 // Whether a tombstone of the list has an ordinal, and whether an item before has it.
@@ -161,19 +161,28 @@ impl<'a> Seen<'a> {
         }
     }
 
-    // The ordinals of the list's tombstones, that of the last first.
-    pub fn of(list: ItemList<'a>) -> Seen<'a>
-        requires { list.item ≢ list.tombstone }
+    // None yet of that list.
+    pub fn new(list: ItemList<'a>) -> Seen<'a>
         ensures list { result.list ≡ list.entry }
-        ensures known { KnownBefore result (start_of list.entry) }
+        ensures len { result.len ≡ 0 }
     {
-        let mut seen = Seen {
+        Seen {
             list,
             ordinals: [0; 1024],
             marks: [0; 1021],
             tombstones: 0,
             len: 0,
-        };
+        }
+    }
+
+    // Keeps the ordinals of the list's tombstones, that of the last first.
+    pub fn collect(&mut self)
+        requires empty { self.old.len ≡ 0 }
+        requires kinds { self.old.list.item ≢ self.old.list.tombstone }
+        ensures list { self.new.list ≡ self.old.list }
+        ensures known { KnownBefore self.new (start_of self.old.list) }
+    {
+        let list = self.list;
         for i in (list.records.range.start..list.records.range.end).rev() {
             if list.records.kind(i) != list.tombstone {
                 continue;
@@ -182,9 +191,8 @@ impl<'a> Seen<'a> {
             if Sheet::MAX_ORDINAL < ordinal {
                 continue;
             }
-            seen.keep(short(ordinal));
+            self.keep(short(ordinal));
         }
-        seen.tombstones = seen.len;
-        seen
+        self.tombstones = self.len;
     }
 }

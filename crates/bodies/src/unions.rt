@@ -73,11 +73,12 @@ fn check_variant(
 pub fn check_union(body: WholeRecords, violations: &mut Violations)
     ensures { Adds violations.old violations.new (union_violations (context_in body.entry.context) (records_in body.entry.context body.entry.range)) }
 {
-    let mut seen = Seen::of(ItemList {
+    let mut seen = Seen::new(ItemList {
         records: body,
         item: kinds::VARIANT,
         tombstone: kinds::TOMBSTONE,
     });
+    seen.collect();
     let mut names = MetNames::new(body.context, kinds::FIELD, body.range.start);
     let mut i = body.range.start;
     // a `for` cannot step by what it reads

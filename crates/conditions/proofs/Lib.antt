@@ -3,6 +3,6 @@ pub mod LengthOperands
 pub mod FirstRecords
 pub mod ConditionOperands
 pub mod FieldLiterals
-pub mod Remaining
+pub mod EachRecord
 pub mod NodeKinds
 pub mod WholeCondition

@@ -13,7 +13,7 @@ use Rattle.diagnostic.specs.Violations.{Adds}
 use Rattle.names.specs.View.{view_at, view_of}
 use Rattle.types.proofs.Views.{view-cons, view-none}
 use Rattle.conditions.specs.Parts.{node_violations}
-use Rattle.conditions.proofs.Remaining.{Remains, remains_rest, remains_none}
+use Rattle.types.proofs.Left.{Leaves, leaves_rest, leaves_none}
 
 module _ (ctx : ValidationContext ℕ Span) (ty : List (Rec ℕ Span)) where
   -- what is found at one record depends on the type by its literals and by whether it is a collection
@@ -25,18 +25,18 @@ module _ (ctx : ValidationContext ℕ Span) (ty : List (Rec ℕ Span)) where
 
   pub condition_next :
       (sheet : List ℕ) (i e : ℕ) (takes : Literals) (collection : Bool) (old mid new : Violations) (all : List (Found Span)) → i < e →
-      takes ≡ literals_of ty → collection ≡ is_collection_type ty → Remains old mid all (condition_violations ctx ty (view_of sheet i e)) →
+      takes ≡ literals_of ty → collection ≡ is_collection_type ty → Leaves old mid all (condition_violations ctx ty (view_of sheet i e)) →
       Adds mid new (node_violations ctx takes collection (view_at sheet i) (view_of sheet (i + 1) e)) →
-      Remains old new all (condition_violations ctx ty (view_of sheet (i + 1) e))
+      Leaves old new all (condition_violations ctx ty (view_of sheet (i + 1) e))
   unfolding condition_violations
   condition_next sheet i e takes collection old mid new all h ht hc left here =
-      remains_rest old all mid new _ _ (rw (view-cons sheet i e h) at left) (rw (own-found takes collection (view_at sheet i) (view_of sheet (i + 1) e) ht hc) at here)
+      leaves_rest old mid new all _ _ _ left (ap (condition_violations ctx ty) (view-cons sheet i e h)) (rw (own-found takes collection (view_at sheet i) (view_of sheet (i + 1) e) ht hc) at here)
 
   pub condition_end :
       (sheet : List ℕ) (i e : ℕ) (old now : Violations) (all : List (Found Span)) → e ≤ i →
-      Remains old now all (condition_violations ctx ty (view_of sheet i e)) → Adds old now all
+      Leaves old now all (condition_violations ctx ty (view_of sheet i e)) → Adds old now all
   unfolding condition_violations
-  condition_end sheet i e old now all h left = remains_none old all now (rw (view-none sheet i e h) at left)
+  condition_end sheet i e old now all h left = leaves_none old now all _ left (ap (condition_violations ctx ty) (view-none sheet i e h))
 
 -- an optional before another changes neither the literals nor whether there is a length, and so nothing that is found
 module _ (ctx : ValidationContext ℕ Span) (t u : Rec ℕ Span) (rs : List (Rec ℕ Span)) (ht : is Kind.Optional t ≡ true) (hu : is Kind.Optional u ≡ true) where

@@ -1,10 +1,11 @@
 -- A variant's ordinal is met and judged, and another record changes nothing.
+use Rattle.std.proofs.Common.{◌∙◌}
 use Rattle.bodies.proofs.WholeRecords.{has-ordinal, variant-has}
 use Rattle.bodies.proofs.Variants.{variants-none, variants-other, variants-end, meets-item, enum-variant}
 use Rattle.bodies.proofs.enums.check_variants.Goals as goal
 
 pub loop-i-init : goal.loop-i-init
-loop-i-init c = variants-none _ _ _ _ _ _ _ _ c.of-seen.ensures.list c.of-seen.ensures.known
+loop-i-init c = variants-none _ _ _ _ _ _ _ _ (c.collect.ensures.list ∙ c.new-seen.ensures.list) (rw c.new-seen.ensures.list at c.collect.ensures.known)
 
 pub loop-i-preserved-then-kind-ne-VARIANT : goal.loop-i-preserved-then-kind-ne-VARIANT
 loop-i-preserved-then-kind-ne-VARIANT c =

@@ -1,11 +1,12 @@
 -- A field is met and judged with its parts, and another record by itself.
+use Rattle.std.proofs.Common.{◌∙◌}
 use Rattle.bodies.proofs.WholeRecords.{has-ordinal, field-has}
 use Rattle.bodies.proofs.FieldTurns.{item-found}
 use Rattle.bodies.proofs.FieldList.{fields_none, fields_other, meets_field, fields_field, fields_end}
 use Rattle.bodies.proofs.message.check_message_body.Goals as goal
 
 pub loop-i-init : goal.loop-i-init
-loop-i-init c = fields_none _ _ c.args.names.now _ _ c.requires c.restart.ensures c.of-seen.ensures.list c.of-seen.ensures.known
+loop-i-init c = fields_none _ _ c.args.names.now _ _ c.requires c.restart.ensures (c.collect.ensures.list ∙ c.new-seen.ensures.list) (rw c.new-seen.ensures.list at c.collect.ensures.known)
 
 pub loop-i-preserved-then-kind-ne-FIELD : goal.loop-i-preserved-then-kind-ne-FIELD
 loop-i-preserved-then-kind-ne-FIELD c =

@@ -1,5 +1,5 @@
 -- A variant's ordinal is met and judged, and then its fields; another record changes nothing.
-use Rattle.std.proofs.Common.{not, arith, rules}
+use Rattle.std.proofs.Common.{not, arith, rules, ◌∙◌}
 use Rattle.rules.specs.Words.{within}
 use Rattle.rules.specs.Kind
 use Rattle.bodies.proofs.WholeRecords.{has-ordinal, variant-has}
@@ -7,7 +7,7 @@ use Rattle.bodies.proofs.Variants.{variants-none, variants-other, meets-item, un
 use Rattle.bodies.proofs.unions.check_union.Goals as goal
 
 pub loop-i-init : goal.loop-i-init
-loop-i-init c = (variants-none _ _ _ _ _ _ _ _ c.of-seen.ensures.list c.of-seen.ensures.known, search rules)
+loop-i-init c = (variants-none _ _ _ _ _ _ _ _ (c.collect.ensures.list ∙ c.new-seen.ensures.list) (rw c.new-seen.ensures.list at c.collect.ensures.known), search rules)
 
 pub loop-i-preserved-then-kind-ne-VARIANT : goal.loop-i-preserved-then-kind-ne-VARIANT
 loop-i-preserved-then-kind-ne-VARIANT c = (

@@ -1,11 +1,13 @@
 -- Each record, from the last on, is a tombstone that is kept, or changes nothing.
-use Rattle.std.proofs.Common.{refl, sym, ◌∙◌}
+use Rattle.std.proofs.Common.{refl, sym, ◌∙◌, arith}
 use Rattle.bodies.proofs.Collecting.{collected-none, collected-other, collected-out, collected-kept, collected-all}
 use Rattle.bodies.proofs.Passing.{known_start}
-use Rattle.bodies.proofs.seen.Seen.of.Goals as goal
+use Rattle.bodies.proofs.seen.Seen.collect.Goals as goal
 
 pub loop-i-init : goal.loop-i-init
-loop-i-init c = (refl, collected-none _ _ _ _ _ _ refl refl c.args.list.records.ordered)
+loop-i-init c =
+    let list = c.args.self.now.list in
+    (refl, rw c.requires.empty (collected-none _ _ _ _ _ _ (omega arith) (omega arith) list.records.ordered))
 
 pub loop-i-preserved-then-kind-list : goal.loop-i-preserved-then-kind-list
 loop-i-preserved-then-kind-list c =
@@ -21,7 +23,7 @@ loop-i-preserved-then-ordinal-gt-MAX_ORDINAL c = (
 pub loop-i-preserved : goal.loop-i-preserved
 loop-i-preserved c = (
   c.keep.ensures.list ∙ c.loop-i.invariant.0,
-  collected-kept _ _ _ _ _ _ _ _ _ c.loop-i.invariant.1 c.loop-i-test.true c.kind.ensures _ _ _ _ _ c.args.list.records.few c.if-kind-list.false
+  collected-kept _ _ _ _ _ _ _ _ _ c.loop-i.invariant.1 c.loop-i-test.true c.kind.ensures _ _ _ _ _ c.args.self.now.list.records.few c.if-kind-list.false
       c.value-ordinal.ensures c.if-ordinal-gt-MAX_ORDINAL.false c.short.ensures c.keep.ensures.ordinals c.keep.ensures.marks c.keep.ensures.len,
 )
 
@@ -29,4 +31,4 @@ pub returns-clause-known : goal.returns-clause-known
 returns-clause-known c =
     let all = collected-all _ _ _ _ _ _ _ _ c.loop-i.invariant.1 c.loop-i-test.false in
     rw c.loop-i.invariant.0
-    (known_start _ _ _ _ _ _ _ _ (λ same. c.requires (sym same)) c.args.list.records.few all.0 all.1 all.3 all.4)
+    (known_start _ _ _ _ _ _ _ _ (λ same. c.requires.kinds (sym same)) c.args.self.now.list.records.few all.0 all.1 all.3 all.4)
