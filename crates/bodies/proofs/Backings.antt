@@ -16,11 +16,11 @@ use Rattle.rules.specs.Bodies.{used, retired, used_ordinal, used_ordinals, is_me
 use Rattle.rules.proofs.ItemCounts.{any-slots}
 use Rattle.names.specs.View.{view_at, view_of}
 use Rattle.diagnostic.specs.declared.violations.Violations.{Violations}
-use Rattle.diagnostic.specs.Push.{push_if, push_found}
+use Rattle.diagnostic.specs.Push.{push_if}
 use Rattle.diagnostic.specs.Violations.{state_of, Adds}
 use Rattle.diagnostic.proofs.Added.{adds_none, adds_then, adds_if}
 use Rattle.types.proofs.Views.{view-cons, view-none}
-use Rattle.annotations.proofs.FoundSteps.{found-step, found-end}
+use Rattle.types.proofs.Left.{Leaves, leaves_rest, leaves_none}
 use Rattle.bodies.specs.Backing.{narrow_found, backings_from}
 use Rattle.bodies.proofs.BodyItems.{item-member, no_item}
 
@@ -103,30 +103,18 @@ module _ (sheet : List ℕ) (a e : ℕ) where
   left i = backings_from (view_of sheet a e) (view_of sheet i e)
 
   -- what is still found there is left to add
-  pub record BackingsKnown (old now : Violations) (i : ℕ) : Type 0 where
-    pub reference : now.list.ghost_name ≡ old.list.ghost_name
-    pub found : push_found (left i) (state_of now) ≡ push_found (left a) (state_of old)
-
-  pub backings_none : (vs : Violations) → BackingsKnown vs vs a
-  backings_none vs = record { reference = refl; found = refl }
+  abbrev pub BackingsKnown : Violations → Violations → ℕ → Type 0
+  BackingsKnown old now i = Leaves old now (left a) (left i)
 
   pub backings_next :
       (old now next : Violations) (i : ℕ) → BackingsKnown old now i → i < e → Adds now next (narrow_found (view_of sheet a e) (view_at sheet i)) →
       BackingsKnown old next (i + 1)
   unfolding backings_from flat_map
-  backings_next old now next i k h adds = record {
-    reference = adds.reference ∙ k.reference;
-    found =
-        found-step (left i) (narrow_found (view_of sheet a e) (view_at sheet i)) (left (i + 1)) (state_of now) (state_of next) _ (rw (view-cons sheet i e h)) adds.state
-        k.found;
-  }
+  backings_next old now next i k h adds = leaves_rest old now next _ _ _ (left (i + 1)) k (rw (view-cons sheet i e h)) adds
 
   pub backings_end : (old now : Violations) (i : ℕ) → BackingsKnown old now i → e ≤ i → Adds old now (left a)
   unfolding backings_from flat_map
-  backings_end old now i k h = record {
-    reference = k.reference;
-    state = found-end (left i) (state_of now) _ (rw (view-none sheet i e h)) k.found;
-  }
+  backings_end old now i k h = leaves_none old now _ _ k (rw (view-none sheet i e h))
 
 -- what is found at the records that pass a test is found record by record
 flat_map-select :

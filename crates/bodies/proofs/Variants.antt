@@ -19,9 +19,8 @@ use Rattle.names.specs.Known.{table_of, context_in, records_in}
 use Rattle.diagnostic.specs.declared.violations.Violations.{Violations}
 use Rattle.diagnostic.specs.Push.{push_found}
 use Rattle.diagnostic.specs.Violations.{state_of, Adds}
-use Rattle.diagnostic.proofs.FoundPushes.{found_none}
 use Rattle.diagnostic.proofs.Added.{adds_then}
-use Rattle.annotations.proofs.FoundSteps.{found-step}
+use Rattle.types.proofs.Left.{Leaves, leaves_rest, leaves_none}
 use Rattle.bodies.specs.declared.whole.WholeRecords.{WholeRecords}
 use Rattle.bodies.specs.declared.seen.Seen.{Seen}
 use Rattle.bodies.specs.declared.seen.ItemList.{ItemList}
@@ -81,11 +80,10 @@ module _
 
     -- before record i of the body
     pub record VariantsKnown (seen : Seen) (old now : Violations) (i : ℕ) : Type 0 where
-      pub reference : now.list.ghost_name ≡ old.list.ghost_name
       pub list : seen.list ≡ variants_of
       pub most : i ≤ e
       pub known : Known 14 15 sheet a e seen.tombstones seen.ordinals seen.marks seen.len i
-      pub found : push_found (still i) (state_of now) ≡ push_found (list_violations ctx scheme own (body_items (view_of sheet a e))) (state_of old)
+      pub found : Leaves old now (list_violations ctx scheme own (body_items (view_of sheet a e))) (still i)
 
     variants-start : still a ≡ list_violations ctx scheme own (body_items (view_of sheet a e))
     unfolding earlier
@@ -95,11 +93,10 @@ module _
 
     pub variants-none : (seen : Seen) (vs : Violations) → seen.list ≡ variants_of → KnownBefore seen a → VariantsKnown seen vs vs a
     variants-none seen vs list known = record {
-      reference = refl;
       list = list;
       most = body.ordered;
       known = rw list at known;
-      found = ap (λ fs. push_found fs (state_of vs)) variants-start;
+      found = record { reference = refl; state = ap (λ fs. push_found fs (state_of vs)) variants-start };
     }
 
     other-left : (i : ℕ) → a ≤ i → i < e → is Kind.Variant (at i) ≡ false → still i ≡ still (i + 1)
@@ -114,11 +111,10 @@ module _
     module _ (seen : Seen) (old now : Violations) where
       variants-next : (i : ℕ) → VariantsKnown seen old now i → i < e → is Kind.Variant (at i) ≡ false → VariantsKnown seen old now (i + 1)
       variants-next i k h test = record {
-        reference = k.reference;
         list = k.list;
         most = omega arith;
         known = known-other 14 15 sheet a e seen.tombstones seen.ordinals seen.marks seen.len i k.known h test;
-        found = ap (λ fs. push_found fs (state_of now)) (sym (other-left i k.known.2 h test)) ∙ k.found;
+        found = rw (other-left i k.known.2 h test) at k.found;
       }
 
       -- a record that is no variant
@@ -144,13 +140,7 @@ module _
           rw last at (variants-parts i (end - i) k (omega arith) (rw (sym last) at all))
 
       pub variants-end : (i : ℕ) → VariantsKnown seen old now i → e ≤ i → Adds old now (list_violations ctx scheme own (body_items (view_of sheet a e)))
-      variants-end i k h = record {
-        reference = k.reference;
-        state =
-            sym (found_none (state_of now))
-            ∙ ap (λ fs. push_found fs (state_of now)) (sym (turn-none ctx scheme own starts_item 14 sheet a e tombs i h))
-            ∙ k.found;
-      }
+      variants-end i k h = leaves_none old now _ _ k.found (turn-none ctx scheme own starts_item 14 sheet a e tombs i h)
 
     -- no name is asked for
     names-free : (tombstoned met b c : Bool) (r : Rec ℕ Span) → member_found scheme tombstoned met b r ≡ member_found scheme tombstoned met c r
@@ -177,19 +167,18 @@ module _
           let dead : m.tombstoned ≡ member (value_in (record_bytes sheet i)) tombs = rw (k.list, ho) at ht in
           let met : m.met ≡ member (value_in (record_bytes sheet i)) (values (variants i)) = rw (k.list, ho) at hm in
           record {
-            reference = adds.reference ∙ k.reference;
             list = whole;
             most = omega arith;
             known = rw whole at known';
             found =
-                found-step _ _ _ (state_of now) (state_of now') _
+                leaves_rest old now now' _ _ _ _ k.found
                 (turn-member ctx scheme own starts_item 14 sheet a e tombs i k.known.2 h (variant-starts (at i) test) (variant-member (at i) test) test
                 ∙ ap (λ fs. fs ++ own (item_at ctx scheme own starts_item 14 sheet a e tombs i) ++ still (i + 1))
                 (sym (names-free m.tombstoned m.met false again (at i)
                 ∙ member-tests ctx scheme tombs (values (variants i)) (names_of (variants i)) (at i) m.tombstoned m.met again dead
                 (ap₂ (λ g m. not g && m) dead met)
                 refl)))
-                adds.state k.found;
+                adds;
           }
 
 -- an enum's variants have nothing of their own

@@ -29,6 +29,7 @@ fn check_invariant(sheet: &[u8], violations: &mut Violations, i: usize)
 }
 
 // Adds what is wrong with the ordinal and the name of the field at record `i`: rules 2 to 5.
+#[inline(always)]
 pub fn check_ordinal_and_name(
     sheet: &[u8],
     violations: &mut Violations,
@@ -62,7 +63,8 @@ fn check_all_parts(rest: WholeRecords, violations: &mut Violations) -> usize
 }
 
 // Adds what is wrong with the parts of the field that the records start with, if it has any, and returns where they end. Those of a bare field are told
-// without a call.
+// without a call, and so it is inlined.
+#[inline(always)]
 pub fn check_parts(rest: WholeRecords, violations: &mut Violations) -> usize
     ensures found { Adds violations.old violations.new (field_violations (context_in rest.entry.context) (view_of rest.entry.context.sheet.now rest.entry.range.start result)) }
     ensures end { RunTo in_field rest.entry.context.sheet.now rest.entry.range.start rest.entry.range.end result }
