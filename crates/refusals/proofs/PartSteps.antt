@@ -254,11 +254,3 @@ module _ (es : List Entry) (v : Entry) (one : v.depth ≡ 1) (size : length es �
   pub begins-dues : dues (set es 0 v) 1 ≡ due_of v ∷ []
   unfolding dues
   begins-dues = rw begun
-
-  pub begins-sound : Sound (set es 0 v) 1
-  begins-sound =
-      record {
-        size = length-set es 0 v ∙ size;
-        deep = λ j l. let z : j ≡ 0 = omega arith in rw (z, begun) (omega (arith, one));
-        bounded = λ j l. let z : j ≡ 0 = omega arith in rw (z, begun) (omega (arith, one));
-      }

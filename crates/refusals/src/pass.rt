@@ -74,6 +74,9 @@ fn newtypes_end(sheet: &[u8], end: usize, i: usize) -> usize
 }
 
 // The first fault by rows 3 to 8, and row 6 for an early end; if there is none, where the newtypes end.
+//
+// It is not compiled into its caller, whose other values would take the registers of a step.
+#[inline(never)]
 pub fn first_fault(sheet: &[u8], names: &[u8], table: &[u16; 5122]) -> Result<usize, Refused>
     requires { length sheet.now ≤ 32768 }
     ensures { (passed_of result ≡ first_fault_by (is_second table.now) Grammar.start 0 (records sheet.now names.now)) × EndSound result sheet.now }
