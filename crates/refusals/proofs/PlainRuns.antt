@@ -196,8 +196,8 @@ module _ (sheet names : List ℕ) (i r n : ℕ) (first : i ≤ r) (last : r ≤ 
   ran_nests (d ∷ ds) after some few e = rw e (ran-first d.part d.depth ds some few)
 
 -- no record is passed
-pub ran_none : (sheet names : List ℕ) (s : State) (ds : List Due) (i n : ℕ) → i ≤ n → n ≡ length sheet / 32 → Ran sheet names s ds ds i i
-ran_none sheet names s ds i n l all = record { least = omega arith; most = omega arith; same = λ second. refl; ended = λ end h. h }
+pub ran_none : (sheet names : List ℕ) (s : State) (ds : List Due) (i : ℕ) → i ≤ length sheet / 32 → Ran sheet names s ds ds i i
+ran_none sheet names s ds i l = record { least = omega arith; most = omega arith; same = λ second. refl; ended = λ end h. h }
 
 pub ran_at :
     (sheet names : List ℕ) (before after : List Due) (i r : ℕ) (s : State) (body : Body) → s.body ≡ body → Ran sheet names (at body s.item) before after i r →

@@ -1,4 +1,4 @@
-// Numbers in the bytes of a record that the sheet has.
+// Numbers in the bytes of a record that the sheet has. `sheet::byte_at` reads the same bytes, and tests where the sheet ends, which costs a test a record.
 ghost use Rattle.std.specs.Prelude.{◌≡◌, ◌+◌, ◌/◌, ◌≤◌, ◌<◌, length, get_or};
 ghost use Rattle.rules.specs.Record.{number_at, name_length, name_offset, record_bytes, is_of};
 ghost use Rattle.names.specs.View.{view_at};

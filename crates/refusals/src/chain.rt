@@ -27,6 +27,7 @@ fn behind(sheet: &[u8], table: &[u16; 5122], t: usize) -> Option<usize>
     if sheet::kind(sheet, t) != kinds::NAMED {
         return None;
     }
+    // The context's methods answer an Option, and do not say that a place fits 16 bits, which `set_target` needs.
     if names::declaration(table, t) == 0 {
         return None;
     }

@@ -1,4 +1,6 @@
 // The pass over the records: the first fault by rows 3 to 8.
+//
+// The sheet and the names text are two slices side by side, since most functions read the sheet alone, and contracts name it alone.
 ghost use Rattle.std.specs.Prelude.{◌≡◌, ◌&&◌, ◌+◌, ◌/◌, ◌<◌, ◌≤◌, length, eqb};
 ghost use Rattle.rules.specs.Record.{record_bytes, decode, kind_in, sub_in, records};
 ghost use Rattle.rules.specs.Grammar as Grammar;
@@ -97,7 +99,7 @@ pub fn first_fault(sheet: &[u8], names: &[u8], table: &[u16; 5122]) -> Result<us
             Ok(()) => {
                 end = newtypes_end(sheet, end, i);
                 // A run is as long as its records make it, so that no `for` can step here.
-                i = run_end(sheet, names, &mut due, state, i + 1, n);
+                i = run_end(sheet, names, &mut due, state, i + 1);
             }
         }
     }

@@ -48,56 +48,62 @@ fn plain_end(sheet: &[u8], names: &[u8], run: Run, i: usize, n: usize) -> usize
     n
 }
 
-// Passes the types of one part from record `i` up to `n` in the type of a message's field, as far as none is too deep.
+// Passes the types of one part from record `i` on in the type of a message's field, as far as none is too deep.
 #[tactic(auto, using(crate::proofs::PlainRuns::ran_none, crate::proofs::PlainRuns::ran_nests))]
-fn nests_end(sheet: &[u8], names: &[u8], due: &mut Due, i: usize, n: usize) -> usize
-    requires { (i ≤ n) × (n ≡ length sheet.now / 32) }
+fn nests_end(sheet: &[u8], names: &[u8], due: &mut Due, i: usize) -> usize
+    requires { i ≤ length sheet.now / 32 }
     ensures { Ran sheet.now names.now (at Message Typed) due.old due.new i result }
 {
     let room = due.room();
     if room == 0 {
         return i;
     }
-    let limit = n.min(i + room as usize);
+    let limit = sheet::records(sheet).min(i + room as usize);
     let end = plain_end(sheet, names, Run::Nests, i, limit);
     due.deepen((end - i) as u8);
     end
 }
 
-// Passes the records from record `i` up to `n` that no step of a message is needed for.
+// Passes the records from record `i` on that no step of a message is needed for.
 #[tactic(auto, using(crate::proofs::PlainRuns::ran_none, crate::proofs::PlainRuns::ran_bits))]
-fn message_end(sheet: &[u8], names: &[u8], due: &mut Due, item: Item, i: usize, n: usize) -> usize
-    requires { (i ≤ n) × (n ≡ length sheet.now / 32) }
+fn message_end(sheet: &[u8], names: &[u8], due: &mut Due, item: Item, i: usize) -> usize
+    requires { i ≤ length sheet.now / 32 }
     ensures { Ran sheet.now names.now (at Message item) due.old due.new i result }
 {
     match item {
-        Item::Typed => nests_end(sheet, names, due, i, n),
-        Item::BitNames => plain_end(sheet, names, Run::BitNames, i, n),
+        Item::Typed => nests_end(sheet, names, due, i),
+        Item::BitNames => plain_end(sheet, names, Run::BitNames, i, sheet::records(sheet)),
         _ => i,
     }
 }
 
-// Passes the imported names from record `i` up to `n` where one may come.
+// Passes the imported names from record `i` on where one may come.
 #[tactic(auto, using(crate::proofs::PlainRuns::ran_none, crate::proofs::PlainRuns::ran_imports))]
-fn context_end(sheet: &[u8], names: &[u8], due: &Due, item: Item, i: usize, n: usize) -> usize
-    requires { (i ≤ n) × (n ≡ length sheet.now / 32) }
+fn context_end(sheet: &[u8], names: &[u8], due: &Due, item: Item, i: usize) -> usize
+    requires { i ≤ length sheet.now / 32 }
     ensures { Ran sheet.now names.now (at Context item) due.now due.now i result }
 {
     match item {
-        Item::Between if due.is_empty() => plain_end(sheet, names, Run::Imports, i, n),
+        Item::Between if due.is_empty() => plain_end(
+            sheet,
+            names,
+            Run::Imports,
+            i,
+            sheet::records(sheet),
+        ),
         _ => i,
     }
 }
 
-// Passes the records from record `i` up to `n` that no step is needed for.
+// Passes the records from record `i` on that no step is needed for.
 #[tactic(auto, using(crate::proofs::PlainRuns::ran_none, crate::proofs::PlainRuns::ran_at))]
-pub fn run_end(sheet: &[u8], names: &[u8], due: &mut Due, s: State, i: usize, n: usize) -> usize
-    requires { (i ≤ n) × (n ≡ length sheet.now / 32) }
+pub fn run_end(sheet: &[u8], names: &[u8], due: &mut Due, s: State, i: usize) -> usize
+    requires { i ≤ length sheet.now / 32 }
     ensures { Ran sheet.now names.now s due.old due.new i result }
 {
     match s.body {
-        Body::Context => context_end(sheet, names, due, s.item, i, n),
-        Body::Message => message_end(sheet, names, due, s.item, i, n),
+        Body::Context => context_end(sheet, names, due, s.item, i),
+        Body::Message => message_end(sheet, names, due, s.item, i),
         _ => i,
     }
 }

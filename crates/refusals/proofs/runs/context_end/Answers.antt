@@ -4,4 +4,4 @@ use Rattle.refusals.proofs.PlainRuns.{ran_imports}
 use Rattle.refusals.proofs.runs.context_end.Goals as goal
 
 pub returns-in-Between : goal.returns-in-Between
-returns-in-Between c = ran_imports _ _ _ _ _ _ _ c.requires.1 (sym c.is_empty.ensures ∙ c.if-is_empty.true) c.in-Between.is c.plain_end.ensures
+returns-in-Between c = ran_imports _ _ _ _ _ _ _ c.records.ensures (sym c.is_empty.ensures ∙ c.if-is_empty.true) c.in-Between.is c.plain_end.ensures

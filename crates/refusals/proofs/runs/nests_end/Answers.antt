@@ -7,5 +7,5 @@ pub returns : goal.returns
 returns c =
     let end = c.plain_end-end.ensures in
     let room = c.room-room.ensures in
-    ran_nests _ _ _ _ _ end.0 (omega (arith, c.min-limit.ensures, end.1)) c.requires.1 end.2 _ _ (λ e. c.if-room-eq0.false (room ∙ e))
+    ran_nests _ _ _ _ _ end.0 (omega (arith, c.min-limit.ensures, end.1)) c.records.ensures end.2 _ _ (λ e. c.if-room-eq0.false (room ∙ e))
     (omega (arith, c.min-limit.ensures, end.1, room)) c.deepen.ensures
