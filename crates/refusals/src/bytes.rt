@@ -33,7 +33,6 @@ fn word(sheet: &[u8], i: usize, at: usize) -> u32
 }
 
 // The value's eight bytes, whatever the kind.
-#[tactic(auto, using(crate::proofs::RecordBytes::number_8))]
 pub fn value(sheet: &[u8], i: usize) -> u64
     requires { i < length sheet.now / 32 }
     ensures { result ≡ number_at 24 8 (record_bytes sheet.now i) }

@@ -58,7 +58,7 @@ fn chain_end(sheet: &[u8], table: &[u16; 5122], t: usize) -> Option<usize>
 }
 
 // Has the table lead to the end from the type at record `t` and from those behind it, up to the first that leads there already.
-#[tactic(auto, using(crate::proofs::ChainEnds::kept_itself, crate::proofs::ChainEnds::shortened, crate::proofs::ChainEnds::shortened_again))]
+#[tactic(auto, using(crate::proofs::ChainEnds::kept_itself))]
 fn shorten(sheet: &[u8], table: &mut [u16; 5122], t: usize, end: usize)
     requires { Lasting (context_by table.old sheet.now) × (end < 65535) × EndsAt table.old sheet.now t end }
     ensures { Kept sheet.now table.old table.new }

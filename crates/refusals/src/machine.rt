@@ -232,7 +232,7 @@ impl State {
     //
     // The most common step comes first, without going by the bodies and the items. A field list is asked for in one place, so that its step is
     // compiled into the pass.
-    #[tactic(auto, using(crate::proofs::Bodies::list_taken, crate::proofs::Bodies::list_fault, crate::proofs::Bodies::type_taken, crate::proofs::Bodies::type_fault), unfolding(rules::specs::Grammar::step, crate::specs::States::state_of))]
+    #[tactic(auto, using(crate::proofs::Bodies::list_taken, crate::proofs::Bodies::list_fault, crate::proofs::Bodies::type_taken, crate::proofs::Bodies::type_fault))]
     pub fn step(&mut self, due: &mut Due, kind: u8, sub: u8) -> Result<(), Refusal>
         ensures { step_of result self.new due.new ≡ Grammar.step (state_of self.old due.old) (bare kind sub) }
     {

@@ -47,7 +47,7 @@ fn grammar_step(
 }
 
 // Rows 3 to 8 at record `i`, the lowest number first.
-#[tactic(auto, using(crate::proofs::Passes::own_first, crate::proofs::Passes::grammar_then))]
+#[tactic(auto, using(crate::proofs::Passes::own_first))]
 fn record_step(
     sheet: &[u8],
     names: &[u8],

@@ -19,7 +19,7 @@ pub enum Run {
 }
 
 // Whether record `i` is one of the run, and rows 3 to 5 let it pass.
-#[tactic(auto, using(crate::proofs::PlainRuns::plain_import, crate::proofs::PlainRuns::plain_bit_name, crate::proofs::PlainRuns::plain_nest))]
+#[tactic(auto, using(crate::proofs::PlainRuns::plain_nest))]
 fn is_plain(sheet: &[u8], names: &[u8], run: Run, i: usize) -> bool
     requires { i < length sheet.now / 32 }
     ensures { result ≡ true → Plain run sheet.now names.now i }
@@ -49,7 +49,7 @@ fn plain_end(sheet: &[u8], names: &[u8], run: Run, i: usize, n: usize) -> usize
 }
 
 // Passes the types of one part from record `i` on in the type of a message's field, as far as none is too deep.
-#[tactic(auto, using(crate::proofs::PlainRuns::ran_none, crate::proofs::PlainRuns::ran_nests))]
+#[tactic(auto, using(crate::proofs::PlainRuns::ran_none))]
 fn nests_end(sheet: &[u8], names: &[u8], due: &mut Due, i: usize) -> usize
     requires { i ≤ length sheet.now / 32 }
     ensures { Ran sheet.now names.now (at Message Typed) due.old due.new i result }
@@ -65,7 +65,7 @@ fn nests_end(sheet: &[u8], names: &[u8], due: &mut Due, i: usize) -> usize
 }
 
 // Passes the records from record `i` on that no step of a message is needed for.
-#[tactic(auto, using(crate::proofs::PlainRuns::ran_none, crate::proofs::PlainRuns::ran_bits))]
+#[tactic(auto, using(crate::proofs::PlainRuns::ran_none))]
 fn message_end(sheet: &[u8], names: &[u8], due: &mut Due, item: Item, i: usize) -> usize
     requires { i ≤ length sheet.now / 32 }
     ensures { Ran sheet.now names.now (at Message item) due.old due.new i result }
@@ -78,7 +78,7 @@ fn message_end(sheet: &[u8], names: &[u8], due: &mut Due, item: Item, i: usize) 
 }
 
 // Passes the imported names from record `i` on where one may come.
-#[tactic(auto, using(crate::proofs::PlainRuns::ran_none, crate::proofs::PlainRuns::ran_imports))]
+#[tactic(auto, using(crate::proofs::PlainRuns::ran_none))]
 fn context_end(sheet: &[u8], names: &[u8], due: &Due, item: Item, i: usize) -> usize
     requires { i ≤ length sheet.now / 32 }
     ensures { Ran sheet.now names.now (at Context item) due.now due.now i result }
