@@ -16,7 +16,7 @@ use crate::state::State;
 use rules::{Refusal, Refused};
 use sheet::kinds;
 
-// Whether the first declaration of record `i`'s name is another one.
+// Whether the first declaration of record `i`'s name is another one. A place of the table counts from 1.
 #[tactic(auto, using(crate::proofs::Passes::second_read))]
 fn is_second(table: &[u16; 5122], i: usize) -> bool
     requires { i < 1024 }

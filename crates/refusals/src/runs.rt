@@ -10,7 +10,7 @@ use crate::due::Due;
 use crate::state::{Body, Item, State};
 use sheet::kinds;
 
-// Imported names; bit names; optionals, arrays, fixed arrays and sets.
+// Imported names; bit names; optionals, arrays, fixed arrays and sets. A contract can name a run, and could not name what a closure tests.
 #[derive(Clone, Copy)]
 pub enum Run {
     Imports,
