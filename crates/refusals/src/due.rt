@@ -10,7 +10,7 @@ use rules::Refusal;
 use sheet::kinds;
 use std::marker::Model;
 
-#[derive(Clone, Copy, PartialEq, Eq)]
+#[derive(Clone, Copy)]
 pub enum Part {
     TypeExpr,
     Condition,
