@@ -11,7 +11,7 @@ use Rattle.rules.specs.Kind
 use Rattle.rules.specs.Record.{Rec, is, record_bytes, kind_in, sub_in, value_in, span_in}
 use Rattle.rules.specs.Context.{ValidationContext}
 use Rattle.rules.specs.Grammar.{starts_item}
-use Rattle.rules.specs.Rule.{Found, rule_row, error, EnumBackingTooNarrow}
+use Rattle.rules.specs.Rule.{rule_row, error, EnumBackingTooNarrow}
 use Rattle.rules.specs.Bodies.{used, retired, used_ordinal, used_ordinals, is_member, is_tombstone, slots, body_items, backing_max, backing_violations, enum_scheme, list_violations, enum_violations}
 use Rattle.rules.proofs.ItemCounts.{any-slots}
 use Rattle.names.specs.View.{view_at, view_of}
@@ -20,7 +20,6 @@ use Rattle.diagnostic.specs.Push.{push_if}
 use Rattle.diagnostic.specs.Violations.{state_of, Adds}
 use Rattle.diagnostic.proofs.Added.{adds_none, adds_then, adds_if}
 use Rattle.types.proofs.Views.{view-cons, view-none}
-use Rattle.types.proofs.Left.{Leaves, leaves_rest, leaves_none}
 use Rattle.bodies.specs.Backing.{narrow_found, backings_from}
 use Rattle.bodies.proofs.BodyItems.{item-member, no_item}
 
@@ -97,25 +96,6 @@ module _ (sheet : List ℕ) (i a e k : ℕ) (old : Violations) (kind : k ≡ kin
   rule-33 sub max bad now h read greatest test reference state =
       rw (narrow_found, ← kind, eq-eqb k Kind.Backing h, ← read, ← greatest, ← test) (adds_if 33 bad _ old now reference state)
 
--- and at the records from i on
-module _ (sheet : List ℕ) (a e : ℕ) where
-  abbrev left : ℕ → List (Found Span)
-  left i = backings_from (view_of sheet a e) (view_of sheet i e)
-
-  -- what is still found there is left to add
-  abbrev pub BackingsKnown : Violations → Violations → ℕ → Type 0
-  BackingsKnown old now i = Leaves old now (left a) (left i)
-
-  pub backings_next :
-      (old now next : Violations) (i : ℕ) → BackingsKnown old now i → i < e → Adds now next (narrow_found (view_of sheet a e) (view_at sheet i)) →
-      BackingsKnown old next (i + 1)
-  unfolding backings_from flat_map
-  backings_next old now next i k h adds = leaves_rest old now next _ _ _ (left (i + 1)) k (rw (view-cons sheet i e h)) adds
-
-  pub backings_end : (old now : Violations) (i : ℕ) → BackingsKnown old now i → e ≤ i → Adds old now (left a)
-  unfolding backings_from flat_map
-  backings_end old now i k h = leaves_none old now _ _ k (rw (view-none sheet i e h))
-
 -- what is found at the records that pass a test is found record by record
 flat_map-select :
     {A B : Type 0} (p : A → Bool) (f : A → List B) (xs : List A) → flat_map f (select p xs) ≡ flat_map (λ x. only_if (p x) (f x)) xs
@@ -131,7 +111,7 @@ flat_map-select p f (x ∷ xs) = go (p x) (flat_map-select p f xs)
 
 -- the rule of a whole enum
 pub backings-all : {N P : Type 0} (ctx : ValidationContext N P) (body : List (Rec N P)) → backing_violations ctx body ≡ backings_from body body
-unfolding narrow_found backings_from
+unfolding narrow_found
 backings-all ctx body = flat_map-select (is Kind.Backing) _ body
 
 -- the variants, and then the backing

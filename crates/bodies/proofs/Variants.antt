@@ -17,10 +17,9 @@ use Rattle.rules.proofs.Taken.{outside-is}
 use Rattle.names.specs.View.{view_at, view_of}
 use Rattle.names.specs.Known.{table_of, context_in, records_in}
 use Rattle.diagnostic.specs.declared.violations.Violations.{Violations}
-use Rattle.diagnostic.specs.Push.{push_found}
 use Rattle.diagnostic.specs.Violations.{state_of, Adds}
 use Rattle.diagnostic.proofs.Added.{adds_then}
-use Rattle.types.proofs.Left.{Leaves, leaves_rest, leaves_none}
+use Rattle.types.proofs.Left.{Leaves, leaves_all, leaves_rest, leaves_none}
 use Rattle.bodies.specs.declared.whole.WholeRecords.{WholeRecords}
 use Rattle.bodies.specs.declared.seen.Seen.{Seen}
 use Rattle.bodies.specs.declared.seen.ItemList.{ItemList}
@@ -96,7 +95,7 @@ module _
       list = list;
       most = body.ordered;
       known = rw list at known;
-      found = record { reference = refl; state = ap (λ fs. push_found fs (state_of vs)) variants-start };
+      found = rw (← variants-start) (leaves_all vs (still a));
     }
 
     other-left : (i : ℕ) → a ≤ i → i < e → is Kind.Variant (at i) ≡ false → still i ≡ still (i + 1)

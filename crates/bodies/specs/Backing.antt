@@ -13,5 +13,5 @@ module _ {N P : Type 0} (body : List (Rec N P)) where
   narrow_found b = only_if (is Kind.Backing b) (found_if 33 (any_of (ltb (backing_max b.sub)) (used_ordinals (slots (body_items body)))) b.place)
 
   -- at those records of it
-  unfoldable pub backings_from : List (Rec N P) → List (Found P)
+  abbrev pub backings_from : List (Rec N P) → List (Found P)
   backings_from rs = flat_map narrow_found rs

@@ -73,7 +73,6 @@ fn check_backing(sheet: &[u8], violations: &mut Violations, i: usize, body: Reco
 }
 
 // Adds rule 33 for the enum.
-#[tactic(auto, using(types::proofs::Left::leaves_all, crate::proofs::Backings::backings_next, crate::proofs::Backings::backings_end))]
 fn check_backings(sheet: &[u8], violations: &mut Violations, body: RecordRange)
     ensures { Adds violations.old violations.new (backings_from (view_of sheet.now body.start body.end) (view_of sheet.now body.start body.end)) }
 {

@@ -73,6 +73,7 @@ fn fours_end(records: WholeRecords) -> usize
     ensures { (records.entry.range.start ≤ result) × (result ≤ records.entry.range.end) × AllIn (is Kind.Optional) records.entry.context.sheet.now records.entry.range.start result }
 {
     let mut i = records.range.start;
+    // a `for` by steps of four would have to stop before the last that are fewer
     while i + 4 <= records.range.end {
         if !are_optionals(records, i) {
             return i;

@@ -44,7 +44,7 @@ fn mark(ordinal: u32) -> usize
 }
 
 // Whether the number is among those. Each turn asks one of the first and one of the last of them: two windows, which overlap where they must for the turns
-// to be a multiple of 8, as many as the compiled code takes at once.
+// to be a multiple of 8, as many as the compiled code takes at once. The library's `contains` takes an eighth longer where all ordinals share a mark.
 fn contains(numbers: &[u32], number: u32) -> bool
     ensures { result ≡ member number (latest numbers.now 0 (length numbers.now)) }
 {
