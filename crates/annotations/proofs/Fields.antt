@@ -1,6 +1,6 @@
 -- Rules 13 to 22 of a field: rule 13, then the rules of each annotation in turn, then rule 22.
 use Prim.Native.Nat.{ℕ, ◌+◌, ◌≤◌, ◌<◌}
-use mathlib.Core.Path.{◌≡◌, sym, ◌∙◌}
+use mathlib.Core.Path.{◌≡◌, sym, ◌∙◌, refl}
 use mathlib.Core.Bool.{Bool, true, false}
 use mathlib.Core.List.{List, [], flat_map}
 use Rattle.rules.specs.declared.span.Span.{Span}
@@ -17,7 +17,7 @@ use Rattle.diagnostic.specs.Violations.{Adds}
 use Rattle.diagnostic.proofs.Added.{adds_then}
 use Rattle.annotations.specs.AnnotationAt.{annotation_at}
 use Rattle.annotations.specs.Each.{each_from}
-use Rattle.annotations.proofs.Remaining.{Remains, remains_rest, remains_none}
+use Rattle.types.proofs.Left.{Leaves, leaves_rest, leaves_none}
 use Rattle.annotations.proofs.Views.{annotations-next, annotations-other, annotations-none}
 
 module _ (context : ValidationContext) (ty : RecordRange) (e : ℕ) (old : Violations) (all : List (Found Span)) where
@@ -26,21 +26,21 @@ module _ (context : ValidationContext) (ty : RecordRange) (e : ℕ) (old : Viola
 
   -- a turn of the loop, at an annotation and at another record
   pub each-found :
-      (mid new : Violations) (i : ℕ) (b : Bool) → i < e → b ≡ is Kind.Annotation (view_at context.sheet.now i) → b ≡ true → Remains old mid all (left i) →
-      Adds mid new (annotation_violations (context_in context) (records_in context ty) (annotation_at context.sheet.now i e)) → Remains old new all (left (i + 1))
+      (mid new : Violations) (i : ℕ) (b : Bool) → i < e → b ≡ is Kind.Annotation (view_at context.sheet.now i) → b ≡ true → Leaves old mid all (left i) →
+      Adds mid new (annotation_violations (context_in context) (records_in context ty) (annotation_at context.sheet.now i e)) → Leaves old new all (left (i + 1))
   unfolding each_from flat_map
   each-found mid new i b h hb t before here =
-      remains_rest old all mid new _ _ (rw (annotations-next context.sheet.now i e h (sym hb ∙ t)) at before) here
+      leaves_rest old mid new all _ _ _ (rw (annotations-next context.sheet.now i e h (sym hb ∙ t)) at before) refl here
 
   pub each-other :
-      (mid : Violations) (i : ℕ) (b : Bool) → i < e → b ≡ is Kind.Annotation (view_at context.sheet.now i) → b ≡ false → Remains old mid all (left i) →
-      Remains old mid all (left (i + 1))
+      (mid : Violations) (i : ℕ) (b : Bool) → i < e → b ≡ is Kind.Annotation (view_at context.sheet.now i) → b ≡ false → Leaves old mid all (left i) →
+      Leaves old mid all (left (i + 1))
   unfolding each_from flat_map
   each-other mid i b h hb t before = rw (annotations-other context.sheet.now i e h (sym hb ∙ t)) at before
 
-  pub each-end : (now : Violations) (i : ℕ) → e ≤ i → Remains old now all (left i) → Adds old now all
+  pub each-end : (now : Violations) (i : ℕ) → e ≤ i → Leaves old now all (left i) → Adds old now all
   unfolding each_from flat_map
-  each-end now i h before = remains_none old all now (rw (annotations-none context.sheet.now i e h) at before)
+  each-end now i h before = leaves_none old now all _ (rw (annotations-none context.sheet.now i e h) at before) refl
 
 -- the three parts in the definition's order
 pub field_found :

@@ -1,5 +1,3 @@
-pub mod FoundSteps
-pub mod Remaining
 pub mod Asked
 pub mod Views
 pub mod WordCodes

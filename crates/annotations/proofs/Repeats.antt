@@ -23,7 +23,7 @@ use Rattle.annotations.specs.Met.{Row, is_met}
 use Rattle.annotations.specs.Earlier.{is_annotation, earlier_of, earlier, is_compared_at, repeats_at}
 use Rattle.annotations.proofs.Views.{annotations-next, annotations-other, annotations-none}
 use Rattle.annotations.proofs.WordCodes.{word-is}
-use Rattle.annotations.proofs.Remaining.{Remains, remains_rest, remains_none}
+use Rattle.types.proofs.Left.{Leaves, leaves_rest, leaves_none}
 
 module _ (sheet : List ℕ) (a : ℕ) where
   -- the annotations up to the record after record i: record i, if it is one, and those up to it
@@ -98,13 +98,13 @@ module _ (table sheet : List ℕ) (a e : ℕ) where
   -- a turn of the loop: rule 22 at record i
   pub duplicates-turn :
       (old mid new : Violations) (all : List (Found Span)) (i : ℕ) (bad : Bool) → a ≤ i → i < e → bad ≡ repeats_at table sheet a i →
-      Remains old mid all (duplicates_from i) → new.list.ghost_name ≡ mid.list.ghost_name →
+      Leaves old mid all (duplicates_from i) → new.list.ghost_name ≡ mid.list.ghost_name →
       state_of new ≡ push_if bad (record { class = 45; severity = 0; span = span_in (record_bytes sheet i) }) (state_of mid) →
-      Remains old new all (duplicates_from (i + 1))
+      Leaves old new all (duplicates_from (i + 1))
   unfolding rule_row
   duplicates-turn old mid new all i bad l h hb left same pushed =
-      remains_rest old all mid new _ _ (rw (duplicates-next i h l, ← hb) at left) (adds_if 22 bad (span_in (record_bytes sheet i)) mid new same pushed)
+      leaves_rest old mid new all _ _ _ (rw (duplicates-next i h l, ← hb) at left) refl (adds_if 22 bad (span_in (record_bytes sheet i)) mid new same pushed)
 
-  pub duplicates_end : (old now : Violations) (all : List (Found Span)) (i : ℕ) → e ≤ i → Remains old now all (duplicates_from i) → Adds old now all
+  pub duplicates_end : (old now : Violations) (all : List (Found Span)) (i : ℕ) → e ≤ i → Leaves old now all (duplicates_from i) → Adds old now all
   unfolding duplicates_from duplicate_annotations
-  duplicates_end old now all i h left = remains_none old all now (rw (annotations-none sheet i e h) at left)
+  duplicates_end old now all i h left = leaves_none old now all _ (rw (annotations-none sheet i e h) at left) refl

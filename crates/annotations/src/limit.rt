@@ -47,7 +47,7 @@ pub fn check_argument(
 }
 
 // Adds what is wrong with each argument of the limit at the first record, for that type. They are the records after it, up to the next annotation.
-#[tactic(auto, using(crate::proofs::Remaining::remains_all, crate::proofs::Remaining::remains_next))]
+#[tactic(auto, using(types::proofs::Left::leaves_all, types::proofs::EachRecord::leaves_next))]
 pub fn check_limit_value(
     context: ValidationContext,
     violations: &mut Violations,

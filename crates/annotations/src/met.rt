@@ -81,29 +81,39 @@ impl<'a> MetNames<'a> {
         }
     }
 
-    // Those from record `start` on in their place.
-    pub fn restart(&mut self, start: usize)
-        ensures { self.new ≡ record self.old { start = start } }
+    // The records of that kind from record `start` on in their place.
+    pub fn restart(&mut self, context: ValidationContext<'a>, kind: u8, start: usize)
+        ensures { self.new ≡ record { sheet = context.entry.sheet.now; table = table_of context.entry; kind = kind; start = start } }
     {
+        // names in slots that lie behind no record from the start on are none of theirs
         if start < self.end {
             self.slots = [0; MOST];
         }
-        self.records.start = start;
+        self.records = NamedRecords {
+            context,
+            kind,
+            start,
+        };
         self.end = start;
     }
 
-    // Whether one of them before record `i` has the name of record `i`.
+    // Whether one of them before record `i` has the name of record `i`, which is put into its slot.
+    #[inline(always)]
     pub fn is_met(&mut self, i: usize) -> bool
         ensures { (self.new ≡ self.old) × (result ≡ is_met self.old i) }
     {
         let records = self.records;
         let id = records.context.id(i);
         // the slots are not for records that come again, nor for those past the last of a sheet
-        if (i < self.end) | (MOST < i) {
+        if (i < self.end) | (MOST <= i) {
             return records.has_name(i, id);
         }
         enter(records, &mut self.slots, self.end, i);
-        self.end = i;
-        has_name(records, &self.slots, i, id)
+        let met = has_name(records, &self.slots, i, id);
+        if sheet::kind(records.context.sheet, i) == records.kind {
+            self.slots[slot(id)] = (i + 1) as u16;
+        }
+        self.end = i + 1;
+        met
     }
 }

@@ -24,7 +24,6 @@ use Rattle.bodies.specs.declared.seen.Meeting.{Meeting}
 use Rattle.bodies.specs.Seen.{Known}
 use Rattle.bodies.specs.Met.{sheet_of, tombstoned_in, met_before, KnownBefore}
 use Rattle.bodies.specs.Earlier.{earlier, values_before}
-use Rattle.bodies.specs.FieldNames.{AreOfFields}
 use Rattle.bodies.specs.Runs.{in_field, AllIn, RunTo}
 use Rattle.bodies.specs.Items.{field_found}
 use Rattle.bodies.proofs.Passing.{gone, known-other}
@@ -94,11 +93,11 @@ module _ (fields : WholeRecords) where
 
   -- the start of the list
   pub fields_none :
-      (seen : Seen) (before names : Row) (vs : Violations) → AreOfFields fields.context before → names ≡ record before { start = a } → seen.list ≡ fields_of →
+      (seen : Seen) (names : Row) (vs : Violations) → names ≡ names_in → seen.list ≡ fields_of →
       KnownBefore seen a → FieldsKnown seen names vs vs a
-  fields_none seen before names vs of named list known = record {
+  fields_none seen names vs named list known = record {
     list = list;
-    named = named ∙ (λ i. record { sheet = of.0 i; table = of.1 i; kind = of.2 i; start = a });
+    named = named;
     most = fields.ordered;
     known = rw list at known;
     found = record { reference = refl; state = ap (λ fs. push_found fs (state_of vs)) (fields-start table sheet a e) };

@@ -1,7 +1,6 @@
 pub mod Backing
 pub mod Bit
 pub mod Earlier
-pub mod FieldNames
 pub mod Items
 pub mod Met
 pub mod Ordinal

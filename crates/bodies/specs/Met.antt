@@ -1,17 +1,13 @@
--- The records of a list by kind, and what is kept of a list.
+-- What is kept of a list.
 use Rattle.std.specs.Prelude.{ℕ, Bool, List}
 use Rattle.rules.specs.Words.{member}
-use Rattle.rules.specs.Record.{is}
-use Rattle.names.specs.View.{view_at, view_of}
+use Rattle.names.specs.View.{view_of}
 use Rattle.bodies.specs.declared.seen.ItemList.{ItemList}
 use Rattle.bodies.specs.declared.seen.Seen.{Seen}
 use Rattle.bodies.specs.Earlier.{values_of, values_before}
 use Rattle.bodies.specs.Seen.{Kept, Known}
 
--- record i is of the kind
-abbrev pub of_kind : ℕ → List ℕ → ℕ → Bool
-of_kind kind sheet i = is kind (view_at sheet i)
-
+-- the sheet of a list, and its first record and its end
 abbrev pub sheet_of : ItemList → List ℕ
 sheet_of list = list.records.context.sheet.now
 

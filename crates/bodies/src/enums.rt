@@ -73,6 +73,7 @@ fn check_backing(sheet: &[u8], violations: &mut Violations, i: usize, body: Reco
 }
 
 // Adds rule 33 for the enum.
+#[tactic(auto, using(types::proofs::Left::leaves_all, types::proofs::EachRecord::leaves_next, types::proofs::EachRecord::leaves_end))]
 fn check_backings(sheet: &[u8], violations: &mut Violations, body: RecordRange)
     ensures { Adds violations.old violations.new (backings_from (view_of sheet.now body.start body.end) (view_of sheet.now body.start body.end)) }
 {

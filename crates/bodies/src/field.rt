@@ -26,6 +26,7 @@ pub struct FieldParts {
 }
 
 // Adds what is wrong with the annotations of a field of that type, if there are any.
+#[tactic(auto, using(crate::proofs::FieldParts::annotations_none))]
 fn check_annotations(
     context: ValidationContext,
     violations: &mut Violations,

@@ -20,6 +20,7 @@ fn check_bit(sheet: &[u8], violations: &mut Violations, i: usize)
 }
 
 // Adds what is wrong with the flags.
+#[tactic(auto, using(types::proofs::Left::leaves_all, types::proofs::EachRecord::leaves_next, types::proofs::EachRecord::leaves_end, crate::proofs::Bits::flags_bits))]
 pub fn check_flags(body: WholeRecords, violations: &mut Violations)
     ensures { Adds violations.old violations.new (flags_violations (context_in body.entry.context) (records_in body.entry.context body.entry.range)) }
 {

@@ -9,7 +9,6 @@ ghost use Rattle.names.specs.View.{view_at, view_of};
 ghost use Rattle.diagnostic.specs.Violations.{Adds};
 ghost use Rattle.bodies.specs.Ordinal.{member_found};
 ghost use Rattle.bodies.specs.Runs.{in_field, RunTo};
-ghost use Rattle.bodies.specs.FieldNames.{AreOfFields};
 
 use crate::field::{check_bare, check_field, field_parts, is_bare};
 use crate::ordinal::OrdinalRules;
@@ -76,13 +75,15 @@ pub fn check_parts(rest: WholeRecords, violations: &mut Violations) -> usize
     check_all_parts(rest, violations)
 }
 
-// Adds what is wrong with the field list, by the names lent for it.
-pub fn check_message_body(fields: WholeRecords, violations: &mut Violations, names: &mut MetNames)
-    requires { AreOfFields fields.context names.old }
-    ensures found { Adds violations.old violations.new (field_list_violations (context_in fields.entry.context) (records_in fields.entry.context fields.entry.range)) }
-    ensures names { AreOfFields fields.entry.context names.new }
+// Adds what is wrong with the field list. The names that are lent for it may be those of another.
+pub fn check_message_body<'a>(
+    fields: WholeRecords<'a>,
+    violations: &mut Violations,
+    names: &mut MetNames<'a>,
+)
+    ensures { Adds violations.old violations.new (field_list_violations (context_in fields.entry.context) (records_in fields.entry.context fields.entry.range)) }
 {
-    names.restart(fields.range.start);
+    names.restart(fields.context, kinds::FIELD, fields.range.start);
     let mut seen = Seen::new(ItemList {
         records: fields,
         item: kinds::FIELD,

@@ -4,7 +4,6 @@ ghost use Rattle.rules.specs.Record.{value_in, record_bytes};
 ghost use Rattle.rules.specs.Bodies.{field_list_violations, union_violations};
 ghost use Rattle.names.specs.Known.{table_of, context_in, records_in};
 ghost use Rattle.diagnostic.specs.Violations.{Adds};
-ghost use Rattle.bodies.specs.FieldNames.{AreOfFields};
 ghost use Rattle.bodies.specs.Items.{variant_found};
 
 use crate::message::{check_message_body, check_ordinal_and_name, check_parts};
@@ -18,10 +17,8 @@ use sheet::kinds;
 
 // Adds what is wrong with the fields of a variant, by the names lent for them. For a single field, before which nothing is met, no numbers and no names
 // are kept.
-fn check_fields(fields: WholeRecords, violations: &mut Violations, names: &mut MetNames)
-    requires { AreOfFields fields.context names.old }
-    ensures found { Adds violations.old violations.new (field_list_violations (context_in fields.entry.context) (records_in fields.entry.context fields.entry.range)) }
-    ensures names { AreOfFields fields.entry.context names.new }
+fn check_fields<'a>(fields: WholeRecords<'a>, violations: &mut Violations, names: &mut MetNames<'a>)
+    ensures { Adds violations.old violations.new (field_list_violations (context_in fields.entry.context) (records_in fields.entry.context fields.entry.range)) }
 {
     if fields.range.is_empty() {
         return;
@@ -51,18 +48,16 @@ fn check_fields(fields: WholeRecords, violations: &mut Violations, names: &mut M
 }
 
 // Adds what is wrong with the variant, whose ordinal is that number, by the names lent for its fields.
-fn check_variant(
-    variant: WholeRecords,
+fn check_variant<'a>(
+    variant: WholeRecords<'a>,
     violations: &mut Violations,
-    names: &mut MetNames,
+    names: &mut MetNames<'a>,
     ordinal: u64,
     meeting: Meeting,
 )
     requires some { variant.range.start < variant.range.end }
     requires read { ordinal ≡ value_in (record_bytes variant.context.sheet.now variant.range.start) }
-    requires names { AreOfFields variant.context names.old }
-    ensures found { Adds violations.old violations.new (variant_found (table_of variant.entry.context) variant.entry.context.sheet.now variant.entry.range.start variant.entry.range.end meeting.tombstoned meeting.met) }
-    ensures names { AreOfFields variant.entry.context names.new }
+    ensures { Adds violations.old violations.new (variant_found (table_of variant.entry.context) variant.entry.context.sheet.now variant.entry.range.start variant.entry.range.end meeting.tombstoned meeting.met) }
 {
     let item = variant.range.start;
     OrdinalRules::UNION.check(variant.context.sheet, violations, item, ordinal, meeting);

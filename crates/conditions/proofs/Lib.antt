@@ -3,6 +3,5 @@ pub mod LengthOperands
 pub mod FirstRecords
 pub mod ConditionOperands
 pub mod FieldLiterals
-pub mod EachRecord
 pub mod NodeKinds
 pub mod WholeCondition

@@ -10,6 +10,7 @@ use names::ValidationContext;
 use rules::RecordRange;
 
 // Adds what rules 23 to 30 find at the condition on a field of that type.
+#[tactic(auto, using(types::proofs::Left::leaves_all, crate::proofs::WholeCondition::condition_next, crate::proofs::WholeCondition::condition_end))]
 pub fn validate_where_expr(
     context: ValidationContext,
     violations: &mut Violations,

@@ -14,6 +14,7 @@ use names::ValidationContext;
 use rules::RecordRange;
 
 // The operands of the condition that the records start with; none of no records.
+#[tactic(auto, using(crate::proofs::ConditionOperands::operands_none, crate::proofs::ConditionOperands::operands_first))]
 fn operands_of(sheet: &[u8], node: RecordRange) -> RecordRange
     ensures { view_of sheet.now result.start result.end ≡ operands_of (view_at sheet.now node.start) (view_of sheet.now (node.start + 1) node.end) }
 {
@@ -29,6 +30,7 @@ fn operands_of(sheet: &[u8], node: RecordRange) -> RecordRange
 }
 
 // Adds what rules 23 to 27 find at the operands of the condition that the records start with, on a type that takes those literals.
+#[tactic(auto, using(types::proofs::Left::leaves_all, types::proofs::EachRecord::leaves_next, types::proofs::EachRecord::leaves_end))]
 pub fn validate_where_operands(
     context: ValidationContext,
     violations: &mut Violations,

@@ -9,3 +9,4 @@ pub mod Passed
 pub mod Stack
 pub mod Views
 pub mod Walk
+pub mod EachRecord

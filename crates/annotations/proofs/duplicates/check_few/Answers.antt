@@ -1,10 +1,10 @@
 -- A turn of the loop is rule 22 at record `i`.
-use Rattle.annotations.proofs.Remaining.{remains_all}
+use Rattle.types.proofs.Left.{leaves_all}
 use Rattle.annotations.proofs.Repeats.{duplicates_all, duplicates-turn, duplicates_end}
 use Rattle.annotations.proofs.duplicates.check_few.Goals as goal
 
 pub loop-i-init : goal.loop-i-init
-loop-i-init c = rw duplicates_all (remains_all _ _)
+loop-i-init c = rw duplicates_all (leaves_all _ _)
 
 pub loop-i-preserved : goal.loop-i-preserved
 loop-i-preserved c =

@@ -2,12 +2,12 @@
 use Rattle.std.proofs.Common.{ap, ◌∙◌}
 use Rattle.names.specs.Known.{table_of}
 use Rattle.annotations.specs.Earlier.{repeats_at}
-use Rattle.annotations.proofs.Remaining.{remains_all}
+use Rattle.types.proofs.Left.{leaves_all}
 use Rattle.annotations.proofs.Repeats.{duplicates_all, duplicates-turn, duplicates_end}
 use Rattle.annotations.proofs.duplicates.check_row.Goals as goal
 
 pub loop-i-init : goal.loop-i-init
-loop-i-init c = (rw duplicates_all (remains_all _ _), c.new-names.ensures)
+loop-i-init c = (rw duplicates_all (leaves_all _ _), c.new-names.ensures)
 
 pub loop-i-preserved : goal.loop-i-preserved
 loop-i-preserved c =

@@ -6,7 +6,7 @@ use Rattle.bodies.proofs.FieldList.{fields_none, fields_other, meets_field, fiel
 use Rattle.bodies.proofs.message.check_message_body.Goals as goal
 
 pub loop-i-init : goal.loop-i-init
-loop-i-init c = fields_none _ _ c.args.names.now _ _ c.requires c.restart.ensures (c.collect.ensures.list ∙ c.new-seen.ensures.list) (rw c.new-seen.ensures.list at c.collect.ensures.known)
+loop-i-init c = fields_none _ _ _ _ c.restart.ensures (c.collect.ensures.list ∙ c.new-seen.ensures.list) (rw c.new-seen.ensures.list at c.collect.ensures.known)
 
 pub loop-i-preserved-then-kind-ne-FIELD : goal.loop-i-preserved-then-kind-ne-FIELD
 loop-i-preserved-then-kind-ne-FIELD c =
@@ -26,5 +26,5 @@ loop-i-preserved c =
     (rw (c.from.ensures.range, c.from.ensures.context) at c.check_parts-i.ensures.end)
     (item-found _ _ _ _ _ _ _ _ _ _ c.check_ordinal_and_name.ensures (rw (c.from.ensures.range, c.from.ensures.context) at c.check_parts-i.ensures.found))
 
-pub returns-clause-found : goal.returns-clause-found
-returns-clause-found c = fields_end _ _ _ _ _ _ c.loop-i.invariant c.loop-i-test.false
+pub returns : goal.returns
+returns c = fields_end _ _ _ _ _ _ c.loop-i.invariant c.loop-i-test.false

@@ -6,14 +6,14 @@ use Rattle.bodies.proofs.SingleField.{fields-empty, single-has, fields-single}
 use Rattle.bodies.proofs.FieldTurns.{item-found}
 use Rattle.bodies.proofs.unions.check_fields.Goals as goal
 
-pub returns-then-is_empty-clause-found : goal.returns-then-is_empty-clause-found
-returns-then-is_empty-clause-found c = fields-empty c.args.fields _ (search rules)
+pub returns-then-is_empty : goal.returns-then-is_empty
+returns-then-is_empty c = fields-empty c.args.fields _ (search rules)
 
 pub ordinal-ordinal-requires-clause-numbered : goal.ordinal-ordinal-requires-clause-numbered
 ordinal-ordinal-requires-clause-numbered c = single-has _ _ _ _ c.kind.ensures c.if-several.false
 
-pub returns-clause-found : goal.returns-clause-found
-returns-clause-found c =
+pub returns : goal.returns
+returns c =
     fields-single c.args.fields _ _ _ _ _ (search rules) c.kind.ensures c.if-several.false
     (rw (c.from-rest.ensures.range, c.from-rest.ensures.context) at (c.run_end-end.ensures.run (λ kind. not (within Kind.Field Kind.Invariant kind)) (λ kind r h. h)))
     (rw (c.from-rest.ensures.range, c.from-rest.ensures.context) at c.check_parts.ensures.end).0

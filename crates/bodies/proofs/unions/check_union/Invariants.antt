@@ -1,11 +1,10 @@
 -- What is known before record `i`, and what is still to add.
 use Rattle.std.proofs.Common.{◌-◌}
-use Rattle.bodies.specs.FieldNames.{AreOfFields}
 use Rattle.bodies.proofs.Variants.{UnionKnown}
 use Rattle.bodies.proofs.unions.check_union.Given as goal
 
 abbrev pub invariant-loop-i : goal.invariant-loop-i
-invariant-loop-i l = UnionKnown l.body l.seen l.initial.violations l.violations l.i × AreOfFields l.fn.body.context l.names
+invariant-loop-i l = UnionKnown l.body l.seen l.initial.violations l.violations l.i
 
 abbrev pub decreases-loop-i : goal.decreases-loop-i
 decreases-loop-i l = l.body.range.end - l.i

@@ -2,7 +2,7 @@
 use Rattle.bodies.proofs.Variants.{variant-adds}
 use Rattle.bodies.proofs.unions.check_variant.Goals as goal
 
-pub returns-clause-found : goal.returns-clause-found
-returns-clause-found c =
+pub returns : goal.returns
+returns c =
     variant-adds c.args.variant _ _ _ _ c.check.new.violations _ c.check.ensures.reference c.check.ensures.state
-    (rw (c.from.ensures.range, c.from.ensures.context) at c.check_fields.ensures.found)
+    (rw (c.from.ensures.range, c.from.ensures.context) at c.check_fields.ensures)
