@@ -5,7 +5,7 @@ use mathlib.Core.List.{List}
 use lib.ListN.{set}
 use borrow.Author.Tests.{eq-eqb, ne_eqb}
 use Rattle.rules.specs.Record.{kind_in, record_bytes}
-use Rattle.names.specs.Known.{table_of}
+use Rattle.names.specs.Known.{numbers_of}
 use Rattle.names.specs.View.{view_at, entry_of, id_part}
 use Rattle.annotations.specs.declared.named.NamedRecords.{NamedRecords}
 use Rattle.annotations.specs.Named.{HasNames}
@@ -17,7 +17,7 @@ module _ (records : NamedRecords) (slots : List ℕ) (i k : ℕ) (before : HasNa
   passed-by other = slotted-other _ _ _ slots i (ne_eqb _ _ (λ e. other (hk ∙ e))) before
 
   pub entered :
-      (id b place : ℕ) → k ≡ records.kind → id ≡ entry_of id_part (table_of records.context) i → b ≡ id % 1024 → place ≡ i + 1 →
+      (id b place : ℕ) → k ≡ records.kind → id ≡ entry_of id_part (numbers_of records.context) i → b ≡ id % 1024 → place ≡ i + 1 →
       HasNames records (set slots b place) (i + 1)
   unfolding view_at
   entered id b place here hi hb hp = slotted-added _ _ _ slots i id b place (eq-eqb _ _ (sym hk ∙ here)) hi hb hp before

@@ -1,7 +1,7 @@
 // Rule 22: an annotation is not repeated.
 ghost use Rattle.std.specs.Prelude.{◌≡◌, []};
 ghost use Rattle.rules.specs.Annotations.{annotations_of, duplicate_annotations};
-ghost use Rattle.names.specs.Known.{table_of, context_in, records_in};
+ghost use Rattle.names.specs.Known.{numbers_of, context_in, records_in};
 ghost use Rattle.diagnostic.specs.Violations.{Adds};
 ghost use Rattle.annotations.specs.Earlier.{is_compared_at, repeats_at};
 
@@ -20,7 +20,7 @@ const FEW: usize = 16;
 // Whether record `i` is an annotation other than `doc`.
 #[tactic(auto, using(crate::proofs::Repeats::compared_by))]
 fn is_compared(context: ValidationContext, i: usize) -> bool
-    ensures { result ≡ is_compared_at (table_of context.entry) context.entry.sheet.now i }
+    ensures { result ≡ is_compared_at (numbers_of context.entry) context.entry.sheet.now i }
 {
     is_annotation(context.sheet, i) & !is_word(context, i, Word::Doc)
 }
@@ -28,7 +28,7 @@ fn is_compared(context: ValidationContext, i: usize) -> bool
 // Whether record `i` is an annotation other than `doc`, and one from record `start` on has its name, by all of them.
 #[tactic(auto, using(crate::proofs::Repeats::among_again))]
 pub fn is_duplicate(context: ValidationContext, start: usize, i: usize) -> bool
-    ensures { result ≡ repeats_at (table_of context.entry) context.entry.sheet.now start i }
+    ensures { result ≡ repeats_at (numbers_of context.entry) context.entry.sheet.now start i }
 {
     let annotations = NamedRecords {
         context,
@@ -41,8 +41,8 @@ pub fn is_duplicate(context: ValidationContext, start: usize, i: usize) -> bool
 // The same, by the names that are met.
 #[tactic(auto, using(crate::proofs::Repeats::met_again))]
 fn is_duplicate_in_row(context: ValidationContext, names: &mut MetNames, i: usize) -> bool
-    requires { (names.old.sheet ≡ context.sheet.now) × (names.old.table ≡ table_of context) × (names.old.kind ≡ 20) }
-    ensures { (result ≡ repeats_at (table_of context.entry) context.entry.sheet.now names.old.start i) × (names.new ≡ names.old) }
+    requires { (names.old.sheet ≡ context.sheet.now) × (names.old.table ≡ numbers_of context) × (names.old.kind ≡ 20) }
+    ensures { (result ≡ repeats_at (numbers_of context.entry) context.entry.sheet.now names.old.start i) × (names.new ≡ names.old) }
 {
     is_compared(context, i) && names.is_met(i)
 }

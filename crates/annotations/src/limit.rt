@@ -1,7 +1,7 @@
 // Rules 18 and 19: the value of a `limit`.
 ghost use Rattle.std.specs.Prelude.{◌≡◌};
 ghost use Rattle.rules.specs.Annotations.{limit_value_violations};
-ghost use Rattle.names.specs.Known.{table_of, context_in, records_in};
+ghost use Rattle.names.specs.Known.{numbers_of, context_in, records_in};
 ghost use Rattle.names.specs.View.{view_at};
 ghost use Rattle.diagnostic.specs.Violations.{Adds};
 ghost use Rattle.annotations.specs.AnnotationAt.{annotation_in, is_number_at};
@@ -19,7 +19,7 @@ const HEX: u8 = 1;
 // Whether record `j` is a number without a key.
 #[tactic(auto, using(crate::proofs::Limits::number_is))]
 pub fn is_number(context: ValidationContext, j: usize) -> bool
-    ensures { result ≡ is_number_at (table_of context.entry) context.entry.sheet.now j }
+    ensures { result ≡ is_number_at (numbers_of context.entry) context.entry.sheet.now j }
 {
     is_word(context, j, Word::Blank) & (sheet::sub(context.sheet, j) <= HEX)
 }

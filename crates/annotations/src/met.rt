@@ -1,6 +1,6 @@
 // The names that the records of a list have, in slots: for a long list.
 ghost use Rattle.std.specs.Prelude.{◌≡◌, ◌%◌, ◌≤◌, ◌<◌};
-ghost use Rattle.names.specs.Known.{table_of};
+ghost use Rattle.names.specs.Known.{numbers_of};
 ghost use Rattle.annotations.specs.Met.{is_met};
 ghost use Rattle.annotations.specs.Named.{has_name, HasNames};
 
@@ -68,7 +68,7 @@ impl<'a> Model for MetNames<'a> {
 impl<'a> MetNames<'a> {
     // The records of that kind from record `start` on.
     pub fn new(context: ValidationContext<'a>, kind: u8, start: usize) -> MetNames<'a>
-        ensures { result ≡ record { sheet = context.entry.sheet.now; table = table_of context.entry; kind = kind; start = start } }
+        ensures { result ≡ record { sheet = context.entry.sheet.now; table = numbers_of context.entry; kind = kind; start = start } }
     {
         MetNames {
             records: NamedRecords {
@@ -83,7 +83,7 @@ impl<'a> MetNames<'a> {
 
     // The records of that kind from record `start` on in their place.
     pub fn restart(&mut self, context: ValidationContext<'a>, kind: u8, start: usize)
-        ensures { self.new ≡ record { sheet = context.entry.sheet.now; table = table_of context.entry; kind = kind; start = start } }
+        ensures { self.new ≡ record { sheet = context.entry.sheet.now; table = numbers_of context.entry; kind = kind; start = start } }
     {
         // names in slots that lie behind no record from the start on are none of theirs
         if start < self.end {

@@ -1,6 +1,6 @@
 // The words that annotations and arguments know.
 ghost use Rattle.std.specs.Prelude.{◌≡◌, eqb};
-ghost use Rattle.names.specs.Known.{table_of};
+ghost use Rattle.names.specs.Known.{numbers_of};
 ghost use Rattle.names.specs.View.{entry_of, code_part};
 ghost use Rattle.annotations.specs.WordOf.{word_of, code_of};
 
@@ -23,7 +23,7 @@ impl Word {
     // The word that the name of record `i` is, by its code in the table of names.
     #[tactic(auto, unfolding(crate::specs::WordOf::word_of))]
     pub fn at(context: ValidationContext, i: usize) -> Option<Word>
-        ensures { result ≡ word_of (entry_of code_part (table_of context.entry) i) }
+        ensures { result ≡ word_of (entry_of code_part (numbers_of context.entry) i) }
     {
         match context.code(i) {
             1 => Some(Word::Varint),
@@ -42,7 +42,7 @@ impl Word {
 // Whether the name of record `i` is that word.
 #[tactic(auto, unfolding(crate::specs::WordOf::word_of))]
 pub fn is_word(context: ValidationContext, i: usize, word: Word) -> bool
-    ensures { result ≡ eqb (entry_of code_part (table_of context.entry) i) (code_of word) }
+    ensures { result ≡ eqb (entry_of code_part (numbers_of context.entry) i) (code_of word) }
 {
     Word::at(context, i) == Some(word)
 }

@@ -9,7 +9,7 @@ use Rattle.rules.specs.Record.{is, kind_in, value_in, record_bytes}
 use Rattle.rules.specs.Grammar.{starts_field_item}
 use Rattle.rules.specs.Rule.{Found, found_if}
 use Rattle.rules.specs.Bodies.{field_scheme, items_violations, field_item_violations, field_list_violations}
-use Rattle.names.specs.Known.{table_of, context_in}
+use Rattle.names.specs.Known.{numbers_of, context_in}
 use Rattle.names.specs.View.{view_at, view_of, entry_of, id_part, context_by}
 use Rattle.diagnostic.specs.declared.violations.Violations.{Violations}
 use Rattle.diagnostic.specs.Push.{push_found}
@@ -59,7 +59,7 @@ module _ (table sheet : List ℕ) (a : ℕ) where
 
 module _ (fields : WholeRecords) where
   abbrev table : List ℕ
-  table = table_of fields.context
+  table = numbers_of fields.context
 
   abbrev sheet : List ℕ
   sheet = fields.context.sheet.now

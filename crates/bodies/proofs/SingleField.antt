@@ -13,7 +13,7 @@ use Rattle.rules.specs.Grammar.{starts_field_item}
 use Rattle.rules.specs.Bodies.{field_scheme, field_item_violations, field_list_violations}
 use Rattle.rules.proofs.Taken.{outside-is}
 use Rattle.names.specs.View.{view_at, view_of}
-use Rattle.names.specs.Known.{table_of, context_in}
+use Rattle.names.specs.Known.{numbers_of, context_in}
 use Rattle.diagnostic.specs.declared.violations.Violations.{Violations}
 use Rattle.diagnostic.specs.Violations.{Adds}
 use Rattle.diagnostic.proofs.Added.{adds_none}
@@ -42,7 +42,7 @@ single-has k end e kind read alone = has-ordinal k 11 kind read (single-kind k e
 
 module _ (body : WholeRecords) where
   abbrev table : List ℕ
-  table = table_of body.context
+  table = numbers_of body.context
 
   abbrev sheet : List ℕ
   sheet = body.context.sheet.now

@@ -15,7 +15,7 @@ use Rattle.rules.specs.Rule.{Found}
 use Rattle.rules.specs.Bodies.{Scheme, enum_scheme, union_scheme, is_member, items_violations, list_violations, body_items, field_list_violations, union_violations}
 use Rattle.rules.proofs.Taken.{outside-is}
 use Rattle.names.specs.View.{view_at, view_of}
-use Rattle.names.specs.Known.{table_of, context_in, records_in}
+use Rattle.names.specs.Known.{numbers_of, context_in, records_in}
 use Rattle.diagnostic.specs.declared.violations.Violations.{Violations}
 use Rattle.diagnostic.specs.Violations.{state_of, Adds}
 use Rattle.diagnostic.proofs.Added.{adds_then}
@@ -220,7 +220,7 @@ module _ (body : WholeRecords) where
         (end : ℕ) → UnionKnown seen old now i → i < body.range.end → kind ≡ kind_in (record_bytes body.context.sheet.now i) → kind ≡ 14 →
         ordinal ≡ value_in (record_bytes body.context.sheet.now i) → seen'.list ≡ seen.list → m.tombstoned ≡ tombstoned_in seen.list ordinal →
         m.met ≡ met_before seen.list i ordinal → KnownBefore seen' (i + 1) → RunTo in_item body.context.sheet.now (i + 1) body.range.end end →
-        Adds now now' (variant_found (table_of body.context) body.context.sheet.now i end m.tombstoned m.met) → UnionKnown seen' old now' end
+        Adds now now' (variant_found (numbers_of body.context) body.context.sheet.now i end m.tombstoned m.met) → UnionKnown seen' old now' end
     unfolding variant_found EndsAt
     union-variant end k h hk eq ho same ht hm known' ends adds =
         let sheet = body.context.sheet.now in
@@ -244,7 +244,7 @@ pub variant-adds :
     (body : WholeRecords) (i end : ℕ) (m : Meeting) (old mid now : Violations) → mid.list.ghost_name ≡ old.list.ghost_name →
     state_of mid ≡ push_ordinal (record { greatest = 65535; too_large = 43; reused = 42; duplicate = 42 }) body.context.sheet.now i m.tombstoned m.met (state_of old) →
     Adds mid now (field_list_violations (context_in body.context) (view_of body.context.sheet.now (i + 1) end)) →
-    Adds old now (variant_found (table_of body.context) body.context.sheet.now i end m.tombstoned m.met)
+    Adds old now (variant_found (numbers_of body.context) body.context.sheet.now i end m.tombstoned m.met)
 unfolding variant_found
 variant-adds body i end m old mid now reference state fields =
     adds_then old mid now _ _ (union-members body.context.sheet.now i m.tombstoned m.met old mid mid reference state) fields

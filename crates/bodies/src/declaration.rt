@@ -17,15 +17,7 @@ use crate::whole::WholeRecords;
 use diagnostic::Violations;
 use names::ValidationContext;
 use rules::{RecordRange, Sheet};
-
-// The subs of a head, which stay numbers as all subs do. Any other is a newtype's.
-const MESSAGE: u8 = 0;
-
-const ENUM: u8 = 1;
-
-const FLAGS: u8 = 2;
-
-const UNION: u8 = 3;
+use sheet::subs;
 
 // Adds what is wrong with the body, whose head has that sub.
 #[tactic(auto, unfolding(rules::specs::Bodies::body_violations))]
@@ -33,10 +25,10 @@ fn check_body(body: WholeRecords, violations: &mut Violations, sub: u8)
     ensures { Adds violations.old violations.new (body_violations (context_in body.entry.context) sub (records_in body.entry.context body.entry.range)) }
 {
     match sub {
-        MESSAGE => check_message(body, violations),
-        ENUM => check_enum(body, violations),
-        FLAGS => check_flags(body, violations),
-        UNION => check_union(body, violations),
+        subs::MESSAGE => check_message(body, violations),
+        subs::ENUM => check_enum(body, violations),
+        subs::FLAGS => check_flags(body, violations),
+        subs::UNION => check_union(body, violations),
         _ => check_newtype(body, violations),
     }
 }

@@ -6,8 +6,7 @@ ghost use Rattle.diagnostic.specs.Violations.{Adds};
 use crate::whole::WholeRecords;
 use diagnostic::Violations;
 use rules::Violation;
-use sheet::kinds;
-use types::subs;
+use sheet::{kinds, subs};
 
 // Adds what is wrong with the newtype whose inner type the records start with.
 pub fn check_newtype(body: WholeRecords, violations: &mut Violations)

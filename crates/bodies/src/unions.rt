@@ -2,7 +2,7 @@
 ghost use Rattle.std.specs.Prelude.{◌≡◌, ◌<◌};
 ghost use Rattle.rules.specs.Record.{value_in, record_bytes};
 ghost use Rattle.rules.specs.Bodies.{field_list_violations, union_violations};
-ghost use Rattle.names.specs.Known.{table_of, context_in, records_in};
+ghost use Rattle.names.specs.Known.{numbers_of, context_in, records_in};
 ghost use Rattle.diagnostic.specs.Violations.{Adds};
 ghost use Rattle.bodies.specs.Items.{variant_found};
 
@@ -57,7 +57,7 @@ fn check_variant<'a>(
 )
     requires some { variant.range.start < variant.range.end }
     requires read { ordinal ≡ value_in (record_bytes variant.context.sheet.now variant.range.start) }
-    ensures { Adds violations.old violations.new (variant_found (table_of variant.entry.context) variant.entry.context.sheet.now variant.entry.range.start variant.entry.range.end meeting.tombstoned meeting.met) }
+    ensures { Adds violations.old violations.new (variant_found (numbers_of variant.entry.context) variant.entry.context.sheet.now variant.entry.range.start variant.entry.range.end meeting.tombstoned meeting.met) }
 {
     let item = variant.range.start;
     OrdinalRules::UNION.check(variant.context.sheet, violations, item, ordinal, meeting);

@@ -5,8 +5,7 @@ ghost use Rattle.names.specs.View.{view_of};
 ghost use Rattle.conditions.specs.Taken.{taken, int_alone};
 
 use rules::RecordRange;
-use sheet::kinds;
-use types::subs;
+use sheet::{kinds, subs};
 
 // Whether a type takes each kind of literal.
 #[derive(Clone, Copy)]

@@ -11,8 +11,7 @@ use crate::literals::Literals;
 use diagnostic::Violations;
 use names::ValidationContext;
 use rules::Violation;
-use sheet::kinds;
-use types::subs;
+use sheet::{kinds, subs};
 
 // The subs of an operand, which are numbers as all subs are.
 const INT: u8 = 0;

@@ -8,12 +8,12 @@ use Rattle.names.specs.declared.context.ValidationContext.{ValidationContext}
 use Rattle.names.specs.View.{view_of, context_by}
 
 -- the numbers of the table
-abbrev pub table_of : ValidationContext → List ℕ
-table_of ctx = ctx.table.now
+abbrev pub numbers_of : ValidationContext → List ℕ
+numbers_of ctx = ctx.table.now
 
 -- the context that the table gives
 abbrev pub context_in : ValidationContext → Context.ValidationContext ℕ Span
-context_in ctx = context_by (table_of ctx) ctx.sheet.now
+context_in ctx = context_by (numbers_of ctx) ctx.sheet.now
 
 -- the records of a range
 abbrev pub records_in : ValidationContext → RecordRange → List (Rec ℕ Span)

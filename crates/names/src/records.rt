@@ -15,7 +15,7 @@ use crate::words::word_code;
 use sheet::kinds;
 
 // The code of a name that a bit may have.
-const BIT: u16 = 9;
+pub const BIT: u16 = 9;
 
 // The code of the record's name.
 #[tactic(auto, using(crate::proofs::WordCodes::codes, crate::proofs::Numbers::again))]

@@ -4,16 +4,13 @@ ghost use Rattle.names.specs.Parts.{known, target_of};
 
 use crate::count::count;
 
-// The sub of a declaration that is a newtype.
-const NEWTYPE: u8 = 4;
-
 // The place of the type that stands directly after the newtype at that place; 0, as the table has it, after another declaration.
 #[tactic(auto, using(crate::proofs::Targets::targets))]
 pub fn target(sheet: &[u8], place: usize) -> u16
     requires { 0 < place }
     ensures { (names : List ℕ) → result ≡ target_of (known sheet.now names) place }
 {
-    if count(sheet) <= place || sheet::sub(sheet, place - 1) != NEWTYPE {
+    if count(sheet) <= place || sheet::sub(sheet, place - 1) != sheet::subs::NEWTYPE {
         return 0;
     }
     if sheet::is_type(sheet::kind(sheet, place)) {

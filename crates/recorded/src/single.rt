@@ -3,9 +3,7 @@ ghost use Rattle.std.specs.Prelude.{◌≡◌};
 ghost use Rattle.recorded.specs.Replay.{records_of, is_single_field};
 
 use sheet::kinds::{FIELD, HEAD};
-
-// The sub of a message's head, as a sheet's bytes have it.
-const MESSAGE: u8 = 0;
+use sheet::subs::MESSAGE;
 
 // How many records are of that kind and sub.
 fn records_of(sheet: &[u8], kind: u8, sub: u8) -> usize

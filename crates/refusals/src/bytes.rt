@@ -4,10 +4,7 @@ ghost use Rattle.rules.specs.Record.{number_at, name_length, name_offset, record
 ghost use Rattle.names.specs.View.{view_at};
 
 use rules::Sheet;
-use sheet::kinds;
-
-// The sub of a declaration that is a newtype.
-pub const NEWTYPE: u8 = 4;
+use sheet::{kinds, subs};
 
 // The byte at `at` of record `i`.
 #[tactic(auto, using(crate::proofs::RecordBytes::byte_read))]
@@ -62,5 +59,5 @@ pub fn name_end(sheet: &[u8], i: usize) -> usize
 pub fn is_newtype(sheet: &[u8], i: usize) -> bool
     ensures { result ≡ is_of 1 4 (view_at sheet.now i) }
 {
-    (sheet::kind(sheet, i) == kinds::DECLARATION) && (sheet::sub(sheet, i) == NEWTYPE)
+    (sheet::kind(sheet, i) == kinds::DECLARATION) && (sheet::sub(sheet, i) == subs::NEWTYPE)
 }

@@ -7,12 +7,11 @@ ghost use Rattle.refusals.specs.declared.state.Item.{Item};
 ghost use Rattle.refusals.specs.Due.{bare};
 ghost use Rattle.refusals.specs.States.{is_bits, type_with, type_in, in_fields, GoesOn, field_list_of, enum_of, state_of, start_state, step_of};
 
-use crate::bytes::NEWTYPE;
 use crate::due::{Due, Part};
 use crate::fields::{after_type, field_list_step, is_done};
 use crate::state::{Body, Item, State};
 use rules::Refusal;
-use sheet::kinds;
+use sheet::{kinds, subs};
 
 // Whether the kind begins an item of an enum, flags or a union.
 fn starts_item(kind: u8) -> bool
@@ -104,7 +103,7 @@ impl State {
         requires { due.old ≡ [] }
         ensures { state_of self.new due.new ≡ Grammar.context_item (bare kind sub) }
     {
-        if (kind == kinds::DECLARATION) & (sub == NEWTYPE) {
+        if (kind == kinds::DECLARATION) & (sub == subs::NEWTYPE) {
             return self.enter_type(due, Body::Context);
         }
         self.enter(Body::Context)

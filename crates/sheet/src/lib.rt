@@ -6,6 +6,7 @@ mod field_name;
 pub mod kinds;
 mod names;
 mod record;
+pub mod subs;
 
 pub use field_name::{continue_by, is_valid_by, is_valid_field_name, name_marks, starts_by};
 pub use kinds::{has_ordinal, is_condition, is_known, is_type, part_count, sub_count};

@@ -12,17 +12,6 @@ use names::ValidationContext;
 use rules::{RecordRange, Span, Violation};
 use sheet::kinds;
 
-// The code of a name that a bit may have.
-const BIT: u16 = 9;
-
-// Whether the name of record `i` is one that a bit may have.
-#[tactic(auto, unfolding(names::specs::View::context_by))]
-fn is_valid_field_name(context: ValidationContext, i: usize) -> bool
-    ensures { result ≡ (context_in context.entry).is_valid_field_name i }
-{
-    context.code(i) == BIT
-}
-
 // Adds rule 11 where there is no bit name, and rule 12 for each that is not valid.
 pub fn check_bits(
     context: ValidationContext,
@@ -42,7 +31,7 @@ pub fn check_bits(
             return;
         }
         // rule 12
-        let valid = is_valid_field_name(context, i);
+        let valid = context.is_valid_field_name(i);
         violations.push_if(!valid, Violation::error(span, Violation::InvalidBitName));
     }
 }

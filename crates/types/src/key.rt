@@ -4,20 +4,19 @@ ghost use Rattle.rules.specs.Context.{chain_end};
 ghost use Rattle.rules.specs.Types.{is_invalid_map_key, key_violations};
 ghost use Rattle.diagnostic.specs.Violations.{Adds};
 ghost use Rattle.names.specs.View.{view_at, declarations_of};
-ghost use Rattle.names.specs.Known.{table_of, context_in, records_in};
+ghost use Rattle.names.specs.Known.{numbers_of, context_in, records_in};
 ghost use Rattle.types.specs.Key.{is_without_key, is_invalid_end};
 
 use crate::declared::{behind, is_declared_as};
-use crate::subs;
 use diagnostic::Violations;
 use names::ValidationContext;
 use rules::{RecordRange, Violation};
-use sheet::kinds;
+use sheet::{kinds, subs};
 
 // The type at the end of the chain of newtypes from type `i` on, or the one after as many steps as there are declarations.
 #[tactic(auto, using(crate::proofs::Chain::chain_rules))]
 fn chain_end(context: ValidationContext, i: usize) -> usize
-    ensures { view_at context.entry.sheet.now result ≡ chain_end (context_in context.entry) (declarations_of (table_of context.entry)) (view_at context.entry.sheet.now i) }
+    ensures { view_at context.entry.sheet.now result ≡ chain_end (context_in context.entry) (declarations_of (numbers_of context.entry)) (view_at context.entry.sheet.now i) }
 {
     let mut at = i;
     for _ in 0..context.declarations() {

@@ -7,7 +7,6 @@ mod field_type;
 mod key;
 mod optional;
 mod own;
-pub mod subs;
 mod valid;
 
 pub use declared::is_declared_as;

@@ -7,10 +7,9 @@ ghost use Rattle.rules.specs.Types.{is_numeric_type, is_collection_type};
 ghost use Rattle.names.specs.View.{view_of};
 ghost use Rattle.types.specs.Collection.{is_bare_collection};
 
-use crate::subs;
 use crate::valid::is_delta_valid_type;
 use rules::RecordRange;
-use sheet::kinds;
+use sheet::{kinds, subs};
 
 // The records from the first that is no optional on.
 fn behind_optionals(sheet: &[u8], ty: RecordRange) -> RecordRange

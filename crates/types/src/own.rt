@@ -10,12 +10,11 @@ ghost use Rattle.types.specs.Own.{named_found};
 use crate::bits::check_bits;
 use crate::declared::is_declared_as;
 use crate::key::check_map_key_type;
-use crate::subs;
 use crate::valid::is_valid_geometric_element_type;
 use diagnostic::Violations;
 use names::ValidationContext;
 use rules::{RecordRange, Violation};
-use sheet::kinds;
+use sheet::{kinds, subs};
 
 // Whether the name of record `i` is a known type: declared or imported, or any name where there is a wildcard.
 fn is_known_type(context: ValidationContext, i: usize) -> bool

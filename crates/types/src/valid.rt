@@ -3,9 +3,8 @@ ghost use Rattle.std.specs.Prelude.{◌≡◌};
 ghost use Rattle.rules.specs.Types.{is_varint_valid_type, is_zigzag_valid_type, is_delta_valid_type, is_limit_valid_type, is_limit_capped_type, is_valid_geometric_element_type};
 ghost use Rattle.names.specs.View.{view_of};
 
-use crate::subs;
 use rules::RecordRange;
-use sheet::kinds;
+use sheet::{kinds, subs};
 
 // Whether `varint` may stand at the type (rule 14): U16, U32, U64, Fixed32, Fixed64.
 pub fn is_varint_valid_type(sheet: &[u8], ty: RecordRange) -> bool

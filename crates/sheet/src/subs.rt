@@ -1,4 +1,4 @@
-// The subs that rules name, by the record that has them.
+// The subs that rules name, by the record that has them. They are numbers and no enums, as the kinds are.
 // Of a primitive type.
 pub const BOOL: u8 = 0;
 
@@ -27,8 +27,12 @@ pub const STRING: u8 = 0;
 
 pub const BYTES: u8 = 1;
 
-// Of a known declaration.
+// Of a known declaration, and of a head.
 pub const MESSAGE: u8 = 0;
+
+pub const ENUM: u8 = 1;
+
+pub const FLAGS: u8 = 2;
 
 pub const UNION: u8 = 3;
 
