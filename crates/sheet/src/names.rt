@@ -18,32 +18,18 @@ pub fn has_name(sheet: &[u8], i: usize) -> bool
     }
 }
 
-// Where the name part starts in the names text.
-fn part_start(sheet: &[u8], i: usize) -> usize
+// The name's offset in the names text.
+pub fn name_offset(sheet: &[u8], i: usize) -> usize
     ensures { (result ≡ name_offset (record_bytes sheet.now i)) × (result < 4294967296) }
 {
     word_at(sheet, i, 4) as usize
 }
 
-// How long the name part is.
-fn part_len(sheet: &[u8], i: usize) -> usize
+// The name's length.
+pub fn name_len(sheet: &[u8], i: usize) -> usize
     ensures { (result ≡ name_length (record_bytes sheet.now i)) × (result < 256) }
 {
     byte_at(sheet, i, 2) as usize
-}
-
-// The name's offset in the names text.
-pub fn name_offset(sheet: &[u8], i: usize) -> usize
-    ensures { result ≡ name_offset (record_bytes sheet.now i) }
-{
-    part_start(sheet, i)
-}
-
-// The name's length.
-pub fn name_len(sheet: &[u8], i: usize) -> usize
-    ensures { result ≡ name_length (record_bytes sheet.now i) }
-{
-    part_len(sheet, i)
 }
 
 // Whether the name part ends within the names text (row 4); a record without a name fits.
@@ -51,7 +37,7 @@ pub fn fits(sheet: &[u8], names: &[u8], i: usize) -> bool
     ensures { result ≡ fits_in names.now (record_bytes sheet.now i) }
 {
     if has_name(sheet, i) {
-        part_start(sheet, i) + part_len(sheet, i) <= names.len()
+        name_offset(sheet, i) + name_len(sheet, i) <= names.len()
     } else {
         true
     }
@@ -62,8 +48,8 @@ pub fn name<'a>(sheet: &[u8], names: &'a [u8], i: usize) -> &'a [u8]
     ensures { result.now ≡ name_in names.now (record_bytes sheet.now i) }
 {
     if has_name(sheet, i) {
-        let start = part_start(sheet, i);
-        let end = start + part_len(sheet, i);
+        let start = name_offset(sheet, i);
+        let end = start + name_len(sheet, i);
         if end <= names.len() {
             &names[start..end]
         } else {
