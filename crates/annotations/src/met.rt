@@ -6,10 +6,8 @@ ghost use Rattle.annotations.specs.Named.{has_name, HasNames};
 
 use crate::named::NamedRecords;
 use names::ValidationContext;
+use rules::Sheet;
 use std::marker::Model;
-
-// The most records of a sheet.
-const MOST: usize = 1024;
 
 // The slot of a name. The names of a sheet have slots of their own.
 fn slot(id: u16) -> usize
@@ -19,7 +17,7 @@ fn slot(id: u16) -> usize
 }
 
 // Whether one of the records before record `i` has that name, by its slot. All are asked where another name is the last in the slot.
-fn has_name(records: NamedRecords, slots: &[u16; MOST], i: usize, id: u16) -> bool
+fn has_name(records: NamedRecords, slots: &[u16; Sheet::MAX_RECORDS], i: usize, id: u16) -> bool
     requires { HasNames records slots.now i }
     ensures { result ≡ has_name records.entry id i }
 {
@@ -34,7 +32,7 @@ fn has_name(records: NamedRecords, slots: &[u16; MOST], i: usize, id: u16) -> bo
 }
 
 // Puts the names of the records from record `end` up to record `i` into their slots.
-fn enter(records: NamedRecords, slots: &mut [u16; MOST], end: usize, i: usize)
+fn enter(records: NamedRecords, slots: &mut [u16; Sheet::MAX_RECORDS], end: usize, i: usize)
     requires { HasNames records slots.old end × (end ≤ i) × (i ≤ 1024) }
     ensures { HasNames records.entry slots.new i }
 {
@@ -50,7 +48,7 @@ fn enter(records: NamedRecords, slots: &mut [u16; MOST], end: usize, i: usize)
 pub struct MetNames<'a> {
     records: NamedRecords<'a>,
     end: usize,
-    slots: [u16; MOST],
+    slots: [u16; Sheet::MAX_RECORDS],
 }
 
 impl<'a> Model for MetNames<'a> {
@@ -77,7 +75,7 @@ impl<'a> MetNames<'a> {
                 start,
             },
             end: start,
-            slots: [0; MOST],
+            slots: [0; Sheet::MAX_RECORDS],
         }
     }
 
@@ -87,7 +85,7 @@ impl<'a> MetNames<'a> {
     {
         // names in slots that lie behind no record from the start on are none of theirs
         if start < self.end {
-            self.slots = [0; MOST];
+            self.slots = [0; Sheet::MAX_RECORDS];
         }
         self.records = NamedRecords {
             context,
@@ -105,7 +103,7 @@ impl<'a> MetNames<'a> {
         let records = self.records;
         let id = records.context.id(i);
         // the slots are not for records that come again, nor for those past the last of a sheet
-        if (i < self.end) | (MOST <= i) {
+        if (i < self.end) | (Sheet::MAX_RECORDS <= i) {
             return records.has_name(i, id);
         }
         enter(records, &mut self.slots, self.end, i);

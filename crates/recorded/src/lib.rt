@@ -11,7 +11,7 @@ ghost use Rattle.recorded.specs.File.{number_of, is_magic};
 ghost use Rattle.recorded.specs.Answer.{is_answer};
 
 pub use buffer::VIOLATION;
-pub use replay::{BUFFERS, Case, LIST, MOST_VIOLATIONS, same_buffers};
+pub use replay::{BUFFERS, Case, LIST, same_buffers};
 use rules::AnswerValues;
 pub use single::is_single_field;
 

@@ -12,9 +12,6 @@ pub const BUFFERS: usize = 5;
 // The length of the longest.
 pub const LIST: usize = 36893;
 
-// The most violations of a list.
-pub const MOST_VIOLATIONS: usize = 3072;
-
 // A recorded call of the check: what it was called with, its answer, and the violations of its list as the file has them.
 #[derive(Clone, Copy)]
 pub struct Case<'a> {
@@ -39,7 +36,7 @@ fn is_same(case: &Case, list: &mut [u8]) -> bool
 fn buffer_lengths(total: u32) -> [usize; BUFFERS]
     ensures { result ≡ buffer_lengths total }
 {
-    let most = usize::min(total as usize, MOST_VIOLATIONS);
+    let most = usize::min(total as usize, Violation::MOST);
     let half = Violation::SIZE * (most / 2);
     [0, half, half + 7, Violation::SIZE * most, LIST]
 }

@@ -1,8 +1,8 @@
 // The file of cases, read in order. The top of compare/src/cases_file.rs describes it.
 //
 // No contract can say what a read brings; what is made of the bytes stands in `recorded`.
-use recorded::{Case, MOST_VIOLATIONS, VIOLATION};
-use rules::{AnswerValues, Sheet};
+use recorded::{Case, VIOLATION};
+use rules::{AnswerValues, Sheet, Violation};
 use std::io::Read;
 
 // The buffers' lengths: the longest sheet, names text and violations of a recorded case.
@@ -10,7 +10,7 @@ const SHEET: usize = Sheet::MAX_LEN + Sheet::RECORD;
 
 const NAMES: usize = Sheet::MAX_NAMES_LEN + 1;
 
-const VIOLATIONS: usize = VIOLATION * MOST_VIOLATIONS;
+const VIOLATIONS: usize = VIOLATION * Violation::MOST;
 
 // The file ends too early, or is not as it must be.
 #[derive(Clone, Copy, Debug)]

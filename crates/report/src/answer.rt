@@ -7,9 +7,6 @@ use crate::lines::{put_pair, put_violations};
 use crate::text::Text;
 use rules::{AnswerValues, Violation};
 
-// The most violations that are told: as many as 36864 bytes hold.
-const MOST: usize = 3072;
-
 // The bytes of the longest text: 3072 violations and the counts, each a line of at most 35 bytes.
 pub const SIZE: usize = 107555;
 
@@ -17,7 +14,10 @@ pub const SIZE: usize = 107555;
 fn told(total: u32, len: usize) -> usize
     ensures { (result ≡ told_of total len) × (result ≤ 3072) × (12 * result ≤ len) }
 {
-    usize::min(MOST, usize::min(total as usize, len / Violation::SIZE))
+    usize::min(
+        Violation::MOST,
+        usize::min(total as usize, len / Violation::SIZE),
+    )
 }
 
 // Puts the lines behind a text. The number is 0 where the sheet is accepted, as callers in C see it.

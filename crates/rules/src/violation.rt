@@ -14,6 +14,8 @@ pub struct Violation {
 impl Violation {
     // The bytes of a written violation.
     pub const SIZE: usize = 12;
+    // The most that are told or recorded of a list: as many as 36,864 bytes hold.
+    pub const MOST: usize = 3072;
 
     // The severities.
     pub const ERROR: u8 = 0;
