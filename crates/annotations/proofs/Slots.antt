@@ -22,11 +22,6 @@ pub ready-new : (a : ℕ) → Ready (replicate 1024 0) a
 unfolding Ready
 ready-new a = (length-replicate {A = ℕ} 1024 0, λ b. omega (arith, zero-at 1024 b))
 
--- they have none from a later record on
-pub ready-later : (slots : List ℕ) (a e : ℕ) → Ready slots a → a ≤ e → Ready slots e
-unfolding Ready
-ready-later slots a e r h = (r.0, λ b. omega (arith, r.1 b))
-
 and-both : (b c : Bool) → b && c ≡ true → (b ≡ true) × (c ≡ true)
 and-both true c h = (refl, h)
 and-both false c h = absurd (true≢false (sym h))

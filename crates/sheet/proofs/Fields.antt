@@ -33,10 +33,6 @@ module _ (l : List ℕ) (k : ℕ) (hk : k ≡ kind_in l) where
       let some : n ≡ Kind.sub_count (kind_in l) = cc in
       rw (lt-ltb 0 (Kind.sub_count (kind_in l)) (omega arith)) hr
 
-  -- of another kind than an operand any sub says the same
-  pub other-named : (r : Bool) → (k ≡ 60 → ⊥) → r ≡ Kind.has_name k 0 → r ≡ is_named_in l
-  other-named r other h = h ∙ rw (← hk, ne_eqb k 60 other)
-
   pub ordinal-span-read : (has : Bool) (a b : ℕ) (r : Span) → has ≡ Kind.has_ordinal_span k → has ≡ true → a ≡ number_at 16 4 l → b ≡ number_at 20 4 l → r ≡ record { offset = a; len = b } → r ≡ ordinal_span_in l
   unfolding ordinal_span_in
   ordinal-span-read has a b r h t ha hb hr =

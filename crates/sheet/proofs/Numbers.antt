@@ -1,10 +1,10 @@
 -- A number of four or eight bytes is the sum that code reads byte by byte: `number_at-first`, as often as there are bytes.
-use Prim.Native.Nat.{ℕ, ◌+◌, ◌*◌, ◌≤◌}
-use mathlib.Core.Path.{◌≡◌, refl, sym}
+use Prim.Native.Nat.{ℕ, ◌+◌, ◌*◌}
+use mathlib.Core.Path.{◌≡◌, refl}
 use mathlib.Core.List.{List}
 use native.Mathlib.Nat.{add_assoc}
 use native.Mathlib.Omega.{arith}
-use lib.ListN.{length, get_or, get_or-eq_default}
+use lib.ListN.{get_or}
 use Rattle.rules.specs.Words.{number}
 use Rattle.rules.specs.Record.{number_at}
 use Rattle.rules.proofs.Records.{number_at-first}
@@ -19,10 +19,6 @@ four at l = simp (number_at-first at 3 l, number_at-first (at + 1) 2 l, add_asso
 -- four bytes that were read make the number
 pub word_read : (at : ℕ) (l : List ℕ) (a b c d r : ℕ) → a ≡ get_or l at 0 → b ≡ get_or l (at + 1) 0 → c ≡ get_or l (at + 2) 0 → d ≡ get_or l (at + 3) 0 → r ≡ a + 256 * (b + 256 * (c + 256 * d)) → r ≡ number_at at 4 l
 word_read at l a b c d r ha hb hc hd hr = rw (four at l) (cc)
-
--- past the end a byte reads as 0
-pub past-read : (at : ℕ) (l : List ℕ) → length l ≤ at → 0 ≡ get_or l at 0
-past-read at l h = sym (get_or-eq_default l 0 {n = at} h)
 
 eight : (at : ℕ) (l : List ℕ) → number_at at 8 l ≡ number_at at 4 l + 4294967296 * number_at (at + 4) 4 l
 eight at l =

@@ -36,12 +36,6 @@ test-count k false h = rw (checked_parts, h) (tested-parts (not (eqb k Kind.Gene
 all-skipped : (k : ℕ) → map (λ part. false && part) (checked_parts k) ≡ replicate (length (Kind.parts_of k)) false
 all-skipped k = same_test false (checked_parts k) ∙ rw (test-count k (eqb k Kind.Map) refl)
 
--- a bit name is no part, and a type's parts take its place
-pub after-bit : (tests : List Bool) (k : ℕ) → k ≡ Kind.BitName → tests ≡ stack_after tests k
-unfolding stack_after
-after-bit [] k h = refl
-after-bit (test ∷ tests) k h = rw (stack_after, h)
-
 after-type : (test : Bool) (tests : List Bool) (k : ℕ) → (k ≡ Kind.BitName → ⊥) → stack_after (test ∷ tests) k ≡ map (λ part. test && part) (checked_parts k) ++ tests
 unfolding stack_after
 after-type test tests k h = rw (stack_after, ne_eqb k Kind.BitName h)
