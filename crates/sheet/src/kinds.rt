@@ -3,6 +3,8 @@
 ghost use Rattle.std.specs.Prelude.{◌≡◌, length};
 ghost use Rattle.rules.specs.Kind;
 
+use crate::subs;
+
 pub const DECLARATION: u8 = 1;
 
 pub const IMPORTED_NAME: u8 = 2;
@@ -83,9 +85,6 @@ pub const LEN_RANGE: u8 = 56;
 
 pub const OPERAND: u8 = 60;
 
-// The sub of an operand that names a constant.
-pub const CONST_REF: u8 = 5;
-
 // Whether the kind is one of a type's.
 pub fn is_type(kind: u8) -> bool
     ensures { result ≡ Kind.is_type kind }
@@ -128,7 +127,7 @@ pub fn is_named(kind: u8, sub: u8) -> bool
         | (kind == NAMED)
         | (kind == QUALIFIED)
         | (kind == GENERIC)
-        | ((kind == OPERAND) & (sub == CONST_REF))
+        | ((kind == OPERAND) & (sub == subs::CONST_REF))
 }
 
 // Whether the kind's value is an ordinal.

@@ -41,3 +41,33 @@ pub const NEWTYPE: u8 = 4;
 pub const CONFIG: u8 = 5;
 
 pub const CONST: u8 = 7;
+
+// Of a backing.
+pub const U8_BACKING: u8 = 0;
+
+pub const U16_BACKING: u8 = 1;
+
+pub const U32_BACKING: u8 = 2;
+
+pub const U64_BACKING: u8 = 3;
+
+// Of an argument: of those that are numbers.
+pub const INT_ARGUMENT: u8 = 0;
+
+pub const HEX_ARGUMENT: u8 = 1;
+
+// Of a comparison: the first and the last of the operators that order, Lt, Gt, Le and Ge.
+pub const LT: u8 = 2;
+
+pub const GE: u8 = 5;
+
+// Of an operand: literals, and a constant's name.
+pub const INT_OPERAND: u8 = 0;
+
+pub const FLOAT_OPERAND: u8 = 1;
+
+pub const STRING_OPERAND: u8 = 2;
+
+pub const BOOL_OPERAND: u8 = 3;
+
+pub const CONST_REF: u8 = 5;
