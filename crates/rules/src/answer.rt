@@ -5,7 +5,7 @@ ghost use Rattle.rules.specs.Answer.{number_of, values_of};
 // The nine refusals, in the order of their numbers, 1 to 9.
 #[derive(Clone, Copy, PartialEq, Eq)]
 pub enum Refusal {
-    SheetLength,
+    SheetLength = 1,
     NamesLength,
     Unknown,
     NameRange,
@@ -21,17 +21,7 @@ impl From<Refusal> for u32 {
     fn from(refusal: Refusal) -> u32
         ensures { result ≡ number_of refusal }
     {
-        match refusal {
-            Refusal::SheetLength => 1,
-            Refusal::NamesLength => 2,
-            Refusal::Unknown => 3,
-            Refusal::NameRange => 4,
-            Refusal::OrdinalRange => 5,
-            Refusal::OutOfOrder => 6,
-            Refusal::TooDeep => 7,
-            Refusal::SecondDeclaration => 8,
-            Refusal::EndlessChain => 9,
-        }
+        refusal as u32
     }
 }
 

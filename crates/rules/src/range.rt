@@ -1,6 +1,9 @@
-// Some records of a sheet in a row, by their indices.
+// Some records of a sheet in a row, by their indices. The library's `Range` is an iterator and no `Copy`, and a range goes to several functions one after
+// another. It carries no sheet: the parts of a field are several ranges of one sheet, and with a sheet in each, contracts would have to say that it is the same.
 ghost use Rattle.std.specs.Prelude.{◌≡◌, leb};
 ghost use Rattle.rules.specs.Range.{first_of};
+
+use std::ops::Range;
 
 // The records from `start` up to `end`; none where `end` is not behind `start`.
 #[derive(Clone, Copy, PartialEq, Eq)]
@@ -26,5 +29,22 @@ impl RecordRange {
         } else {
             Some(self.start)
         }
+    }
+
+    // Those from `start` on.
+    pub fn starting_at(self, start: usize) -> RecordRange
+        ensures { result ≡ record { start = start; end = self.end } }
+    {
+        RecordRange {
+            start,
+            end: self.end,
+        }
+    }
+
+    // Their indices, in order.
+    pub fn indices(self) -> Range<usize>
+        ensures { result ≡ record { start = self.start; end = self.end } }
+    {
+        self.start..self.end
     }
 }

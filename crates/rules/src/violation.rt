@@ -1,5 +1,5 @@
-// A violation: its class, its severity and where it was found. Class and severity are numbers and no enums: a violation is also read back from the bytes of a
-// list, whatever they are.
+// A violation: its class, its severity and where it was found. Class and severity are numbers and no enums: `error` and `warning` take any class, and an enum
+// would ask more of their callers; the bytes of a list that are read back may be any numbers.
 ghost use Rattle.std.specs.Prelude.{◌≡◌};
 
 use crate::span::Span;
