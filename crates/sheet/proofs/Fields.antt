@@ -1,18 +1,18 @@
 -- What code reads of a record's bytes is the field that the definitions name: each law takes what was read and what the tests said at one
 -- `return`.
-use Prim.Native.Nat.{ℕ, ◌+◌, ◌-◌, ◌%◌, ◌≤◌, ◌<◌}
+use Prim.Native.Nat.{ℕ, ◌%◌}
 use mathlib.Core.Path.{◌≡◌, refl, ◌∙◌, sym, ap}
 use mathlib.Core.Bool.{Bool, true, false, or-true}
-use mathlib.Core.List.{List, []}
-use native.Mathlib.Nat.{add-zero, zero-add, add-sub_cancel_left}
+use mathlib.Core.List.{List}
+use native.Mathlib.Nat.{add-zero, zero-add}
 use native.Mathlib.Omega.{arith}
-use lib.ListN.{length, get_or, take, drop}
-use lib.Dec.{eqb, leb}
-use borrow.Author.Tests.{lt-ltb, eqb-true, ne_eqb, le-leb, lt-leb}
+use lib.ListN.{get_or}
+use lib.Dec.{eqb}
+use borrow.Author.Tests.{lt-ltb, eqb-true, ne_eqb}
 use Rattle.rules.specs.declared.span.Span.{Span}
 use Rattle.rules.specs.Words.{any_of}
 use Rattle.rules.specs.Kind
-use Rattle.rules.specs.Record.{number_at, kind_in, sub_in, is_named_in, name_length, name_offset, fits_in, name_in, ordinal_span_in, value_in}
+use Rattle.rules.specs.Record.{number_at, kind_in, sub_in, ordinal_span_in, value_in}
 
 -- a kind that passes a test which kind 31 fails is not kind 31
 not-31 : (test : ℕ → Bool) → test 31 ≡ false → (k : ℕ) (same : Bool) → eqb k 31 ≡ same → test k ≡ true → same ≡ false
@@ -69,26 +69,3 @@ module _ (l : List ℕ) (k : ℕ) (hk : k ≡ kind_in l) where
       let no_ordinal : Kind.has_ordinal (kind_in l) ≡ false = cc in
       let no_literal : Kind.has_literal (kind_in l) ≡ false = cc in
       simp (no_ordinal, no_literal, ne_eqb (kind_in l) 31 (λ e. h (hk ∙ e)))
-
--- the name
-module _ (names l : List ℕ) (named : Bool) (h : named ≡ is_named_in l) where
-  pub fits-unnamed : named ≡ false → true ≡ fits_in names l
-  unfolding fits_in
-  fits-unnamed f = rw (sym h ∙ f)
-
-  pub name-unnamed : named ≡ false → [] ≡ name_in names l
-  unfolding name_in
-  name-unnamed f = rw (sym h ∙ f)
-
-  module _ (t : named ≡ true) (start len : ℕ) (hs : start ≡ name_offset l) (hl : len ≡ name_length l) where
-    pub fits-named : leb (start + len) (length names) ≡ fits_in names l
-    unfolding fits_in
-    fits-named = rw (sym h ∙ t, hs, hl)
-
-    pub name-within : start + len ≤ length names → take (start + len - start) (drop start names) ≡ name_in names l
-    unfolding name_in
-    name-within f = rw (sym h ∙ t, add-sub_cancel_left, ← hs, ← hl, le-leb (start + len) (length names) f)
-
-    pub name-beyond : length names < start + len → [] ≡ name_in names l
-    unfolding name_in
-    name-beyond f = rw (sym h ∙ t, ← hs, ← hl, lt-leb (start + len) (length names) f)

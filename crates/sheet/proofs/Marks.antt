@@ -1,7 +1,7 @@
 -- The marks of a name's bytes. A table has the mark of each byte if a test at its 256 entries says so; then it says of bytes and names what
 -- the rules say, since a mark is 3 just for a byte that may start a name and odd just for one that may go on. For any numbers in the table,
 -- a byte that may start a name may go on in it.
-use Prim.Native.Nat.{ℕ, ◌+◌, ◌-◌, ◌/◌, ◌%◌, ◌≤◌}
+use Prim.Native.Nat.{ℕ, ◌+◌, ◌-◌, ◌%◌, ◌≤◌}
 use mathlib.Core.Path.{◌≡◌, refl, ◌∙◌, sym}
 use mathlib.Core.Bool.{Bool, true, false, not, ◌&&◌, ◌||◌, and-false, or-true}
 use mathlib.Core.List.{List, [], ◌∷◌}
@@ -9,12 +9,13 @@ use native.Mathlib.Omega.{arith}
 use lib.Dec.{T, eqb, ltb, eqb→eq}
 use lib.ListN.{length, get_or, get_or-eq_default}
 use borrow.Author.Tests.{ltb-true, ltb-false, lt-leb, ne_eqb, eqb-true}
+use Rattle.std.specs.List.{list_all}
 use Rattle.rules.specs.Words.{number_if, within, any_of}
 use Rattle.rules.specs.Context.{starts_name, continues_name, valid_field_name}
 use Rattle.sheet.specs.Window.{passes}
 use Rattle.sheet.specs.Mark.{name_mark, HasMarks, starts_by, continues_by, continues_at, continue_by, valid_by}
 use Rattle.sheet.proofs.Below.{passes_below, first_passes, second-passes, passes_at}
-use Rattle.sheet.proofs.Windows.{none-fails, split, one_more, windows-meet, none-fails-in}
+use Rattle.sheet.proofs.Windows.{none-fails, split, one_more, windows-meet, none-fails-in, all-or-none}
 
 -- the test of a table: each of its entries is the mark of its byte
 unfoldable pub marks_bytes : List ℕ → Bool
@@ -104,12 +105,10 @@ module _ (marks : List ℕ) where
       let start : starts_by marks b ≡ true = sym h ∙ t in
       a ∙ rw (start, start-continues b start)
 
-  -- both halves of a text go on, which share a byte where its length is odd
-  pub halves-continue : (text : List ℕ) (k : ℕ) (front back : Bool) → front ≡ passes (λ i. continues_by marks (get_or text i 0)) 0 k → back ≡ passes (λ i. continues_by marks (get_or text i 0)) (length text / 2) k → k ≤ length text - length text / 2 → length text - length text / 2 ≤ k → (front && back) ≡ continue_by marks text
-  unfolding continue_by
-  halves-continue text k front back f b le ge =
-      windows-meet (λ i. continues_by marks (get_or text i 0)) (length text / 2) k k (length text) front back f b (omega arith) (omega arith) (omega arith)
-      ∙ none-fails-in (continues_by marks) text
+  pub all_continue : (bytes : List ℕ) → list_all (continues_by marks) bytes ≡ continue_by marks bytes
+  unfolding continue_by any_of
+  all_continue [] = refl
+  all_continue (b ∷ bytes) = rw (all_continue bytes) (all-or-none (continues_by marks b) _)
 
   -- four bytes, and eight
   module _ (text : List ℕ) (at : ℕ) where

@@ -23,7 +23,7 @@ no_key k (key ∷ keys) u = rw (ne_eqb k key u.1, no_key k keys u.0)
 unfoldable pub elsewhere : (ℕ → ℕ) → ℕ → List ℕ → Bool
 elsewhere f v keys = passes_below 256 (λ k. member k keys || eqb v (f k))
 
--- so it is the value in the last arm
+-- so it is the value in the last arm. The prover finds that by itself for the matches of today; docs/PORT.md names the law, so it stands.
 pub last_arm : (f : ℕ → ℕ) (v : ℕ) (keys : List ℕ) → T (elsewhere f v keys) → (k : ℕ) → k < 256 → Unmatched k keys → v ≡ f k
 unfolding elsewhere
 last_arm f v keys t k h u = eqb→eq v (f k) (rw (no_key k keys u) at (passes_at 256 (λ m. member m keys || eqb v (f m)) t k h))

@@ -35,11 +35,6 @@ module _ (test : ℕ → Bool) where
   unfolding passes
   one_more i k all here a h = rw (split i k 1, ← a, ← h, and-true)
 
-  pub one-more-in-front : (k : ℕ) (all here : Bool) → all ≡ passes test 0 k → here ≡ test k → (all && here) ≡ passes test 0 (k + 1)
-  one-more-in-front k all here a h =
-      let start : 0 + k ≡ k = omega arith in
-      one_more 0 k all here a (rw start h)
-
   overlap : (i m both n : ℕ) → (passes test i (m + both) && passes test (i + m) (both + n)) ≡ passes test i (m + (both + n))
   overlap i m both n = rw (split i m both, split (i + m) both n, split i m (both + n), split (i + m) both n, and-twice)
 
@@ -95,7 +90,7 @@ unfolding passes
 behind-first test i zero = refl
 behind-first test i (suc n) = rw (behind-first test (suc i) n)
 
-all-or-none : (a b : Bool) → (a && not b) ≡ not (not a || b)
+pub all-or-none : (a b : Bool) → (a && not b) ≡ not (not a || b)
 all-or-none true b = refl
 all-or-none false b = refl
 

@@ -80,7 +80,8 @@ const NAME_MARKS: [u8; 256] = [
 // The mark of a byte that may start a name.
 const STARTS: u8 = 3;
 
-// The table of marks. Whoever judges many names makes it once, and lends it.
+// The table of marks. Whoever judges many names makes it once, and lends it. It stays an array: the functions below promise what any 256 numbers say, and a type of
+// its own would ask their callers for the right ones.
 pub fn name_marks() -> [u8; 256]
     ensures { HasMarks result }
 {
@@ -92,8 +93,7 @@ pub fn name_marks() -> [u8; 256]
 pub fn starts_by(marks: &[u8; 256], b: u8) -> bool
     ensures { result ≡ starts_by marks.now b }
 {
-    let k = b as usize;
-    marks[k] == STARTS
+    marks[usize::from(b)] == STARTS
 }
 
 // Whether the byte may go on in a name, by the table.
@@ -101,8 +101,7 @@ pub fn starts_by(marks: &[u8; 256], b: u8) -> bool
 fn continues_by(marks: &[u8; 256], b: u8) -> bool
     ensures { result ≡ continues_by marks.now b }
 {
-    let k = b as usize;
-    marks[k] % 2 == 1
+    marks[usize::from(b)] % 2 == 1
 }
 
 // Whether each of the four bytes from `at` on may go on in a name, by the table.
@@ -124,20 +123,12 @@ fn eight_continue(marks: &[u8; 256], text: &[u8], at: usize) -> bool
     four_continue(marks, text, at) & four_continue(marks, text, at + 4)
 }
 
-// Whether each byte of the text may. The halves of the text are read side by side, and no byte ends the loop early, so that no byte waits for the one
-// before it.
-fn halves_continue(marks: &[u8; 256], text: &[u8]) -> bool
+// Whether each byte of the text may.
+#[tactic(auto, unfolding(crate::specs::Mark::continue_by))]
+fn each_continues(marks: &[u8; 256], text: &[u8]) -> bool
     ensures { result ≡ continue_by marks.now text.now }
 {
-    let half = text.len() / 2;
-    let n = text.len() - half;
-    let mut front = true;
-    let mut back = true;
-    for k in 0..n {
-        front = front & continues_by(marks, text[k]);
-        back = back & continues_by(marks, text[half + k]);
-    }
-    front & back
+    text.iter().all(|b| continues_by(marks, *b))
 }
 
 // Whether each byte of the text may go on in a name, by the table. A text of 4 to 16 bytes is read from both ends, without a loop.
@@ -146,7 +137,7 @@ pub fn continue_by(marks: &[u8; 256], text: &[u8]) -> bool
 {
     let len = text.len();
     if len < 4 {
-        return halves_continue(marks, text);
+        return each_continues(marks, text);
     }
     if len <= 8 {
         return four_continue(marks, text, 0) & four_continue(marks, text, len - 4);
@@ -154,20 +145,17 @@ pub fn continue_by(marks: &[u8; 256], text: &[u8]) -> bool
     if len <= 16 {
         return eight_continue(marks, text, 0) & eight_continue(marks, text, len - 8);
     }
-    halves_continue(marks, text)
+    each_continues(marks, text)
 }
 
 // Whether a bit may have the name, by the table.
 pub fn is_valid_by(marks: &[u8; 256], name: &[u8]) -> bool
     ensures { result ≡ valid_by marks.now name.now }
 {
-    if name.len() == 0 {
+    let [first, ..] = name else {
         return false;
-    }
-    if !starts_by(marks, name[0]) {
-        return false;
-    }
-    continue_by(marks, name)
+    };
+    starts_by(marks, *first) && continue_by(marks, name)
 }
 
 // Whether the name starts with a-z or `_` and goes on with letters, digits and `_`.

@@ -1,5 +1,5 @@
-// The kinds of a record, and what each has. They are numbers and no enum: a kind is any byte of a sheet that may not have been judged, and the rules tell
-// kinds by ranges.
+// The kinds of a record, and what each has. They are numbers and no enum: a kind is any byte of a sheet that may not have been judged, so that `sheet::kind` gives
+// any number, and each function here answers for every number. An enum would ask more of their callers.
 ghost use Rattle.std.specs.Prelude.{◌≡◌, length};
 ghost use Rattle.rules.specs.Kind;
 
@@ -89,26 +89,29 @@ pub const OPERAND: u8 = 60;
 pub fn is_type(kind: u8) -> bool
     ensures { result ≡ Kind.is_type kind }
 {
-    (PRIMITIVE <= kind) & (kind <= BITS_INLINE)
+    matches!(kind, PRIMITIVE..=BITS_INLINE)
 }
 
 // Whether the kind is one of a condition's.
 pub fn is_condition(kind: u8) -> bool
     ensures { result ≡ Kind.is_condition kind }
 {
-    (AND <= kind) & (kind <= LEN_RANGE)
+    matches!(kind, AND..=LEN_RANGE)
 }
 
 // Whether there is such a kind.
 pub fn is_known(kind: u8) -> bool
     ensures { result ≡ Kind.known kind }
 {
-    ((DECLARATION <= kind) & (kind <= WILDCARD))
-        | ((HEAD <= kind) & (kind <= BACKING))
-        | ((ANNOTATION <= kind) & (kind <= BIT_NAME))
-        | is_type(kind)
-        | is_condition(kind)
-        | (kind == OPERAND)
+    matches!(
+        kind,
+        DECLARATION..=WILDCARD
+            | HEAD..=BACKING
+            | ANNOTATION..=BIT_NAME
+            | PRIMITIVE..=BITS_INLINE
+            | AND..=LEN_RANGE
+            | OPERAND
+    )
 }
 
 // Whether a record of the kind and the sub has a name.
@@ -116,18 +119,21 @@ pub fn is_known(kind: u8) -> bool
 pub fn is_named(kind: u8, sub: u8) -> bool
     ensures { result ≡ Kind.has_name kind sub }
 {
-    (kind == DECLARATION)
-        | (kind == IMPORTED_NAME)
-        | (kind == HEAD)
-        | (kind == FIELD)
-        | (kind == VARIANT)
-        | (kind == ANNOTATION)
-        | (kind == ARGUMENT)
-        | (kind == BIT_NAME)
-        | (kind == NAMED)
-        | (kind == QUALIFIED)
-        | (kind == GENERIC)
-        | ((kind == OPERAND) & (sub == subs::CONST_REF))
+    match kind {
+        DECLARATION
+        | IMPORTED_NAME
+        | HEAD
+        | FIELD
+        | VARIANT
+        | ANNOTATION
+        | ARGUMENT
+        | BIT_NAME
+        | NAMED
+        | QUALIFIED
+        | GENERIC => true,
+        OPERAND => sub == subs::CONST_REF,
+        _ => false,
+    }
 }
 
 // Whether the kind's value is an ordinal.
@@ -135,24 +141,24 @@ pub fn is_named(kind: u8, sub: u8) -> bool
 pub fn has_ordinal(kind: u8) -> bool
     ensures { result ≡ Kind.has_ordinal kind }
 {
-    (kind == FIELD) | (kind == FIELD_TOMBSTONE) | (kind == VARIANT) | (kind == TOMBSTONE)
+    matches!(kind, FIELD | FIELD_TOMBSTONE | VARIANT | TOMBSTONE)
 }
 
 // Whether the kind's value is another number: a literal, or an array's size.
 pub fn has_literal(kind: u8) -> bool
     ensures { result ≡ Kind.has_literal kind }
 {
-    (kind == ARGUMENT) | (kind == FIXED_ARRAY) | (kind == OPERAND)
+    matches!(kind, ARGUMENT | FIXED_ARRAY | OPERAND)
 }
 
 // Whether the kind has a span for its ordinal.
 pub fn has_ordinal_span(kind: u8) -> bool
     ensures { result ≡ Kind.has_ordinal_span kind }
 {
-    (kind == FIELD) | (kind == VARIANT)
+    matches!(kind, FIELD | VARIANT)
 }
 
-// How many subs the kind has; 0 for a kind without a sub.
+// How many subs the kind has: none, for a kind without a sub.
 #[tactic(auto, unfolding(rules::specs::Words::look_up))]
 pub fn sub_count(kind: u8) -> u8
     ensures { result ≡ Kind.sub_count kind }

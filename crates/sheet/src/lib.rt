@@ -1,4 +1,6 @@
 // Reading the records of a sheet: each field of record i, for a sheet of any length and any i. Past the end everything reads as 0.
+// A record is named by its sheet and its index, as in the definitions: the index goes on to ids, ranges and places, and a function that reads two records of one
+// sheet would have to promise of a type of both that they are.
 #![tactic(auto)]
 
 mod bytes;

@@ -29,33 +29,26 @@ pub fn name_offset(sheet: &[u8], i: usize) -> usize
 pub fn name_len(sheet: &[u8], i: usize) -> usize
     ensures { (result ≡ name_length (record_bytes sheet.now i)) × (result < 256) }
 {
-    byte_at(sheet, i, 2) as usize
+    usize::from(byte_at(sheet, i, 2))
 }
 
 // Whether the name part ends within the names text (row 4); a record without a name fits.
+#[tactic(auto, unfolding(rules::specs::Record::fits_in))]
 pub fn fits(sheet: &[u8], names: &[u8], i: usize) -> bool
     ensures { result ≡ fits_in names.now (record_bytes sheet.now i) }
 {
-    if has_name(sheet, i) {
-        name_offset(sheet, i) + name_len(sheet, i) <= names.len()
-    } else {
-        true
-    }
+    !has_name(sheet, i) || name_offset(sheet, i) + name_len(sheet, i) <= names.len()
 }
 
 // The name, as that part of the names text; empty for a record without a name, or whose part does not fit.
+#[tactic(auto, unfolding(rules::specs::Record::name_in))]
 pub fn name<'a>(sheet: &[u8], names: &'a [u8], i: usize) -> &'a [u8]
     ensures { result.now ≡ name_in names.now (record_bytes sheet.now i) }
 {
-    if has_name(sheet, i) {
-        let start = name_offset(sheet, i);
-        let end = start + name_len(sheet, i);
-        if end <= names.len() {
-            &names[start..end]
-        } else {
-            &names[..0]
-        }
-    } else {
-        &names[..0]
+    if !has_name(sheet, i) {
+        return &[];
     }
+    let start = name_offset(sheet, i);
+    let end = start + name_len(sheet, i);
+    names.get(start..end).unwrap_or(&[])
 }

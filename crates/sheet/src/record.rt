@@ -61,14 +61,12 @@ pub fn value(sheet: &[u8], i: usize) -> u64
     ensures { result ≡ value_in (record_bytes sheet.now i) }
 {
     let kind = kind(sheet, i);
-    if kinds::has_ordinal(kind) {
-        return long_at(sheet, i, 24);
-    }
-    if kinds::has_literal(kind) {
-        return long_at(sheet, i, 24);
+    let value = long_at(sheet, i, 24);
+    if kinds::has_ordinal(kind) || kinds::has_literal(kind) {
+        return value;
     }
     if kind == kinds::SUB_BYTE {
-        return long_at(sheet, i, 24) % 512;
+        return value % 512;
     }
     0
 }

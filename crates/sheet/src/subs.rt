@@ -1,4 +1,5 @@
-// The subs that rules name, by the record that has them. They are numbers and no enums, as the kinds are.
+// The subs that the code names, by the record that has them. They are numbers and no enums: `sheet::sub` gives any byte, and what a sub says depends on the kind
+// beside it.
 // Of a primitive type.
 pub const BOOL: u8 = 0;
 
