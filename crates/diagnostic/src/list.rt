@@ -5,7 +5,8 @@ ghost use Rattle.diagnostic.specs.Push.{stored, counted};
 use crate::encode::encode;
 use rules::{Counts, Violation};
 
-// Writes the violation as record number `index`, if the list has room for that record.
+// Writes the violation as record number `index`, if the list has room for that record. The test is not `get_mut`'s: of a range it promises that the list keeps its
+// length, and not which bytes stand in it, so that the proof did not close.
 pub fn store(list: &mut [u8], index: u32, violation: Violation)
     ensures { list.new ≡ stored violation index list.old }
 {
@@ -21,11 +22,10 @@ pub fn store(list: &mut [u8], index: u32, violation: Violation)
 pub fn count_one(counts: Counts, severity: u8) -> Counts
     ensures { result ≡ counted severity counts }
 {
-    let total = counts.total.wrapping_add(1);
-    let errors = if severity == Violation::ERROR {
-        counts.errors.wrapping_add(1)
-    } else {
-        counts.errors
-    };
-    Counts { total, errors }
+    Counts {
+        total: counts.total.wrapping_add(1),
+        errors: counts
+            .errors
+            .wrapping_add(u32::from(severity == Violation::ERROR)),
+    }
 }

@@ -2,7 +2,7 @@
 ghost use Rattle.std.specs.Prelude.{◌≡◌};
 ghost use Rattle.rules.specs.Record.{record_bytes, span_in};
 ghost use Rattle.diagnostic.specs.Push.{push_one, push_if};
-ghost use Rattle.diagnostic.specs.Violations.{state_of};
+ghost use Rattle.diagnostic.specs.Violations.{state_of, Changes};
 
 use crate::list::{count_one, store};
 use rules::{Counts, Violation};
@@ -30,8 +30,7 @@ impl<'a> Violations<'a> {
 
     // Adds the violation: writes it if there is room for it, and counts it in any case.
     pub fn push(&mut self, violation: Violation)
-        ensures reference { self.new.list.ghost_name ≡ self.old.list.ghost_name }
-        ensures state { state_of self.new ≡ push_one violation (state_of self.old) }
+        ensures { Changes self.old self.new (push_one violation) }
     {
         store(self.list, self.counts.total, violation);
         self.counts = count_one(self.counts, violation.severity);
@@ -40,8 +39,7 @@ impl<'a> Violations<'a> {
     // Adds the violation if `bad`.
     #[tactic(auto, unfolding(crate::specs::Push::push_if))]
     pub fn push_if(&mut self, bad: bool, violation: Violation)
-        ensures reference { self.new.list.ghost_name ≡ self.old.list.ghost_name }
-        ensures state { state_of self.new ≡ push_if bad violation (state_of self.old) }
+        ensures { Changes self.old self.new (push_if bad violation) }
     {
         if bad {
             self.push(violation);
@@ -51,8 +49,7 @@ impl<'a> Violations<'a> {
     // Adds an error of that class at record `i` if `bad`. The span is read only where it is told.
     #[tactic(auto, unfolding(crate::specs::Push::push_if))]
     pub fn error_if(&mut self, bad: bool, sheet: &[u8], i: usize, class: u16)
-        ensures reference { self.new.list.ghost_name ≡ self.old.list.ghost_name }
-        ensures state { state_of self.new ≡ push_if bad (record { class = class; severity = 0; span = span_in (record_bytes sheet.now i) }) (state_of self.old) }
+        ensures { Changes self.old self.new (push_if bad (record { class = class; severity = 0; span = span_in (record_bytes sheet.now i) })) }
     {
         if bad {
             self.push(Violation::error(sheet::span(sheet, i), class));
