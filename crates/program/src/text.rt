@@ -3,9 +3,10 @@ ghost use Rattle.std.specs.Prelude.{◌≡◌, ◌++◌, ◌≤◌, length, drop
 ghost use Rattle.rules.specs.Printed.{printed};
 
 use report::SIZE;
+use rules::Violation;
 
 // The bytes that always hold the list.
-const LIST: usize = 36864;
+const LIST: usize = Violation::SIZE * Violation::MOST;
 
 // Writes the lines to the start of `out`, whose other bytes are kept, and returns how many bytes they are. A slice of `out` could not say
 // that the others are kept.

@@ -9,7 +9,7 @@ use rules::Violation;
 // The bytes of a violation of the file.
 pub const VIOLATION: usize = 16;
 
-// The byte at a place before the call.
+// The byte at a place before the call. It casts what is 251 at most; `u8::try_from` would give a `Result` for each byte that is never an error.
 fn mark_at(i: usize) -> u8
     ensures { result ≡ mark i }
 {
@@ -21,8 +21,8 @@ fn mark_at(i: usize) -> u8
 pub fn fill(list: &mut [u8])
     ensures { list.new ≡ marks (length list.old) }
 {
-    for i in 0..list.len() {
-        list[i] = mark_at(i);
+    for (i, byte) in list.iter_mut().enumerate() {
+        *byte = mark_at(i);
     }
 }
 
@@ -30,7 +30,7 @@ pub fn fill(list: &mut [u8])
 fn written(recorded: usize, len: usize) -> usize
     ensures { result ≡ written_of (recorded / 16) len }
 {
-    usize::min(recorded / VIOLATION, len / Violation::SIZE)
+    (recorded / VIOLATION).min(len / Violation::SIZE)
 }
 
 // The byte at a place of a buffer of `len` bytes after the call.

@@ -12,13 +12,14 @@ ghost use Rattle.recorded.specs.Answer.{is_answer};
 
 pub use buffer::VIOLATION;
 pub use replay::{BUFFERS, Case, LIST, same_buffers};
-use rules::AnswerValues;
+use rules::{AnswerValues, Refusal};
 pub use single::is_single_field;
 
 // The greatest number of a refusal.
-const LAST_REFUSAL: u32 = 9;
+const LAST_REFUSAL: u32 = Refusal::EndlessChain as u32;
 
-// The number in four bytes, the lowest byte first.
+// The number in four bytes, the lowest byte first. It is the library's; called by `replay` alone, whose reads no contract can tell of, it would leave the order of the
+// file's bytes unproved.
 #[tactic(auto, unfolding(crate::specs::File::number_of))]
 pub fn number(b: &[u8; 4]) -> u32
     ensures { result ≡ number_of b.now }
@@ -34,7 +35,7 @@ pub fn is_magic(first: u32, second: u32) -> bool
     first == u32::from_le_bytes(*b"case") && second == u32::from_le_bytes(*b"s 1\n")
 }
 
-// Whether a check can answer so: an accepted sheet has index 0 and no more errors than violations,
+// Whether a check can answer so, of any four numbers, as a file may have any: an accepted sheet has index 0 and no more errors than violations,
 // a refused one has neither.
 #[tactic(auto, unfolding(crate::specs::Answer::is_answer))]
 pub fn is_answer(answer: AnswerValues) -> bool

@@ -36,21 +36,18 @@ fn is_same(case: &Case, list: &mut [u8]) -> bool
 fn buffer_lengths(total: u32) -> [usize; BUFFERS]
     ensures { result ≡ buffer_lengths total }
 {
-    let most = usize::min(total as usize, Violation::MOST);
+    let most = Violation::MOST.min(total as usize);
     let half = Violation::SIZE * (most / 2);
     [0, half, half + 7, Violation::SIZE * most, LIST]
 }
 
-// How many of the five buffers are the same, each the start of a list with room for it.
+// How many of the five buffers are the same, each the start of a list with room for it. It is an array, since a slice would have to be asked to be so long.
 #[tactic(auto, using(crate::proofs::Counts::length_fits), unfolding(crate::specs::Replay::same_buffers, rules::specs::Words::select))]
 pub fn same_buffers(case: &Case, list: &mut [u8; LIST]) -> usize
     ensures { result ≡ same_buffers case.now.sheet.now case.now.names.now case.now.answer case.now.violations.now }
 {
-    let mut same = 0;
-    for len in buffer_lengths(case.answer.total) {
-        if is_same(case, &mut list[..len]) {
-            same += 1;
-        }
-    }
-    same
+    buffer_lengths(case.answer.total)
+        .into_iter()
+        .filter(|len| is_same(case, &mut list[..*len]))
+        .count()
 }

@@ -7,20 +7,22 @@ use crate::lines::{put_pair, put_violations};
 use crate::text::Text;
 use rules::{AnswerValues, Violation};
 
-// The bytes of the longest text: 3072 violations and the counts, each a line of at most 35 bytes.
-pub const SIZE: usize = 107555;
+// The bytes of the longest line.
+const LINE: usize = 35;
+
+// The bytes of the longest text: the violations that are told and the counts, each a line.
+pub const SIZE: usize = LINE * (Violation::MOST + 1);
 
 // How many violations are told of so many, in a list of that length.
 fn told(total: u32, len: usize) -> usize
     ensures { (result ≡ told_of total len) × (result ≤ 3072) × (12 * result ≤ len) }
 {
-    usize::min(
-        Violation::MOST,
-        usize::min(total as usize, len / Violation::SIZE),
-    )
+    (total as usize)
+        .min(len / Violation::SIZE)
+        .min(Violation::MOST)
 }
 
-// Puts the lines behind a text. The number is 0 where the sheet is accepted, as callers in C see it.
+// Puts the lines behind a text. It goes by the number, 0 where the sheet is accepted: `report` takes any four numbers, and an `Answer` would ask more of its callers.
 fn put_lines(text: &mut Text, values: AnswerValues, list: &[u8])
     requires { text.old.len + 107555 ≤ length text.old.buffer.now }
     ensures adds { Adds text.old text.new (lines_of values list.now) }

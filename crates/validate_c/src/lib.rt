@@ -5,7 +5,7 @@ ghost use Rattle.validate.specs.Answered.{Answered, IsBytes};
 
 use rules::AnswerValues;
 
-// The check. The list gets the violations that fit it, in whole records; a call that is refused changes no byte of it.
+// The check, with the contract of `validate`'s: a static library exports the functions that its own crate defines. The list gets the violations that fit it, in whole records; a call that is refused changes no byte of it.
 #[unsafe(no_mangle)]
 pub extern "C" fn vexil_check(sheet: &[u8], names: &[u8], list: &mut [u8]) -> AnswerValues
     ensures answered { Answered sheet.now names.now list.old result list.new }

@@ -1,4 +1,5 @@
 // The program. Its files here are document 01's example.
+// It is a crate of its own, since `rt ci` runs a crate's program once, in the folder `data/` beside its `src/`.
 #![tactic(auto)]
 
 use std::io;
