@@ -3,6 +3,7 @@ pub mod NameTable
 pub mod Parts
 pub mod Notes
 pub mod View
+pub mod WordOf
 pub mod Known
 pub mod Same
 pub mod SameEnds

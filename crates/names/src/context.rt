@@ -1,9 +1,10 @@
 // What a declaration is checked against: the sheet, and the table of its names, which is asked by the records that have them.
 ghost use Rattle.std.specs.Prelude.{◌≡◌, not, eqb};
 ghost use Rattle.names.specs.View.{entry_of, id_part, declaration_part, import_part, target_part, code_part, wildcard_of, declarations_of};
+ghost use Rattle.names.specs.WordOf.{word_of};
 ghost use Rattle.names.specs.Known.{numbers_of, context_in, index_at};
 
-use crate::records::BIT;
+use crate::words::{BIT, Word};
 use crate::{layout, lookup};
 
 #[derive(Clone, Copy)]
@@ -57,6 +58,13 @@ impl<'a> ValidationContext<'a> {
         ensures { result ≡ entry_of code_part (numbers_of self.entry) i }
     {
         lookup::code(self.table, i)
+    }
+
+    // The word that the name is, if it is one.
+    pub fn word(self, i: usize) -> Option<Word>
+        ensures { result ≡ word_of (entry_of code_part (numbers_of self.entry) i) }
+    {
+        Word::with_code(self.code(i))
     }
 
     // Whether the name is one that a bit may have.

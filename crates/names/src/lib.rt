@@ -24,3 +24,4 @@ pub use context::ValidationContext;
 pub use lookup::{code, declaration, declarations, has_wildcard, id, is_imported, target};
 pub use shorten::set_target;
 pub use whole::fill;
+pub use words::Word;

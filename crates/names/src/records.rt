@@ -11,11 +11,8 @@ use crate::ids::Chains;
 use crate::layout;
 use crate::notes::note;
 use crate::own::Named;
-use crate::words::word_code;
+use crate::words::{BIT, word_code};
 use sheet::kinds;
-
-// The code of a name that a bit may have.
-pub const BIT: u16 = 9;
 
 // The code of the record's name.
 #[tactic(auto, using(crate::proofs::WordCodes::codes, crate::proofs::Numbers::again))]

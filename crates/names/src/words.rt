@@ -1,21 +1,77 @@
-// The code of a name: a number, as the table has it.
-ghost use Rattle.std.specs.Prelude.{◌≡◌};
+// The codes of names: a number for each word, and one for a name that a bit may have.
+ghost use Rattle.std.specs.Prelude.{◌≡◌, MatchOption};
 ghost use Rattle.names.specs.NameTable.{word_code};
+ghost use Rattle.names.specs.WordOf.{word_of, code_of};
 
-// The code of a name that may be a word: 1 to 7 for the words, 8 for the name with no bytes, else 0.
-#[tactic(auto, using(crate::proofs::WordCodes::word_told, crate::proofs::WordCodes::word_read))]
+// The words that annotations and arguments know, each with its code.
+#[derive(Clone, Copy, PartialEq, Eq)]
+pub enum Word {
+    Varint = 1,
+    Zigzag = 2,
+    Delta = 3,
+    Limit = 4,
+    Deprecated = 5,
+    Doc = 6,
+    Reason = 7,
+    // the name with no bytes
+    Blank = 8,
+}
+
+// The code of a name that a bit may have.
+pub const BIT: u16 = 9;
+
+impl From<Word> for u16 {
+    fn from(word: Word) -> u16
+        ensures { result ≡ code_of word }
+    {
+        word as u16
+    }
+}
+
+impl Word {
+    // The word with that code.
+    #[tactic(auto, unfolding(crate::specs::WordOf::word_of))]
+    pub fn with_code(code: u16) -> Option<Word>
+        ensures { result ≡ word_of code }
+    {
+        match code {
+            1 => Some(Word::Varint),
+            2 => Some(Word::Zigzag),
+            3 => Some(Word::Delta),
+            4 => Some(Word::Limit),
+            5 => Some(Word::Deprecated),
+            6 => Some(Word::Doc),
+            7 => Some(Word::Reason),
+            8 => Some(Word::Blank),
+            _ => None,
+        }
+    }
+
+    // The word with those bytes.
+    #[tactic(auto, using(crate::proofs::WordCodes::word_told, crate::proofs::WordCodes::word_read))]
+    fn with_bytes(name: &[u8]) -> Option<Word>
+        ensures { MatchOption result (word_code name.now ≡ 0) (λ word. word_code name.now ≡ code_of word) }
+    {
+        match name {
+            b"varint" => Some(Word::Varint),
+            b"zigzag" => Some(Word::Zigzag),
+            b"delta" => Some(Word::Delta),
+            b"limit" => Some(Word::Limit),
+            b"deprecated" => Some(Word::Deprecated),
+            b"doc" => Some(Word::Doc),
+            b"reason" => Some(Word::Reason),
+            b"" => Some(Word::Blank),
+            _ => None,
+        }
+    }
+}
+
+// The code of a name that may be a word; 0 where it is none.
 pub fn word_code(name: &[u8]) -> u16
     ensures { result ≡ word_code name.now }
 {
-    match name {
-        b"varint" => 1,
-        b"zigzag" => 2,
-        b"delta" => 3,
-        b"limit" => 4,
-        b"deprecated" => 5,
-        b"doc" => 6,
-        b"reason" => 7,
-        b"" => 8,
-        _ => 0,
+    match Word::with_bytes(name) {
+        Some(word) => u16::from(word),
+        None => 0,
     }
 }

@@ -1,7 +1,7 @@
 -- The words by the codes that the table of names has for them.
 use Rattle.std.specs.Prelude.{ℕ, Option, Some, None, if◌then◌else◌, ◌==◌}
-use Rattle.annotations.specs.declared.word.Word.{Word}
-use Rattle.annotations.specs.declared.word.Word.TheVariants.{Varint, Zigzag, Delta, Limit, Deprecated, Doc, Reason, Blank}
+use Rattle.names.specs.declared.words.Word.{Word}
+use Rattle.names.specs.declared.words.Word.TheVariants.{Varint, Zigzag, Delta, Limit, Deprecated, Doc, Reason, Blank}
 
 -- the word with that code
 unfoldable pub word_of : ℕ → Option Word
