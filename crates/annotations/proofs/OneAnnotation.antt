@@ -15,12 +15,12 @@ use Rattle.diagnostic.specs.declared.violations.Violations.{Violations}
 use Rattle.diagnostic.specs.Push.{push_if}
 use Rattle.diagnostic.specs.Violations.{state_of, Adds}
 use Rattle.diagnostic.proofs.Added.{adds_none, adds_then, adds_if}
-use Rattle.annotations.specs.declared.word.Word.{Word}
-use Rattle.annotations.specs.declared.word.Word.TheVariants.{Varint, Zigzag, Delta, Limit, Deprecated, Doc, Reason, Blank}
+use Rattle.names.specs.declared.words.Word.{Word}
+use Rattle.names.specs.declared.words.Word.TheVariants.{Varint, Zigzag, Delta, Limit, Deprecated, Doc, Reason, Blank}
 use Rattle.annotations.specs.AnnotationAt.{annotation_at}
 use Rattle.annotations.specs.LimitViolations.{limit_violations}
 use Rattle.annotations.specs.Target.{target_violations}
-use Rattle.annotations.specs.WordOf.{word_of, code_of}
+use Rattle.names.specs.WordOf.{word_of, code_of}
 use Rattle.annotations.proofs.WordCodes.{word-other, coded, uncoded}
 
 module _ (table sheet : List ℕ) (i e a z : ℕ) where

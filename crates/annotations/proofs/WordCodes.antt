@@ -10,8 +10,8 @@ use Rattle.std.specs.Prelude.{Some, None}
 use Rattle.std.proofs.lemmas.Grind.{common_steps}
 use Rattle.rules.specs.Words.{number_if}
 use Rattle.names.specs.View.{entry_of, code_part, context_by}
-use Rattle.annotations.specs.declared.word.Word.{Word}
-use Rattle.annotations.specs.WordOf.{word_of, code_of}
+use Rattle.names.specs.declared.words.Word.{Word}
+use Rattle.names.specs.WordOf.{word_of, code_of}
 
 by-range :
     (c w : ℕ) (low high : Bool) → leb 1 c ≡ low → leb c 7 ≡ high → 1 ≤ w → w ≤ 7 →

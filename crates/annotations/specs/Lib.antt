@@ -2,7 +2,6 @@ pub mod AnnotationAt
 pub mod Slots
 pub mod Met
 pub mod Named
-pub mod WordOf
 pub mod Target
 pub mod Each
 pub mod Earlier

@@ -3,8 +3,8 @@ use Rattle.std.specs.Prelude.{not, List, []}
 use Rattle.rules.specs.Record.{Rec}
 use Rattle.rules.specs.Rule.{Found, found_if}
 use Rattle.rules.specs.Types.{is_varint_valid_type, is_zigzag_valid_type, is_delta_valid_type, is_limit_valid_type}
-use Rattle.annotations.specs.declared.word.Word.{Word}
-use Rattle.annotations.specs.declared.word.Word.TheVariants.{Varint, Zigzag, Delta, Limit, Deprecated, Doc, Reason, Blank}
+use Rattle.names.specs.declared.words.Word.{Word}
+use Rattle.names.specs.declared.words.Word.TheVariants.{Varint, Zigzag, Delta, Limit, Deprecated, Doc, Reason, Blank}
 
 module _ {N P : Type 0} where
   -- rules 14 to 17

@@ -8,9 +8,8 @@ ghost use Rattle.annotations.specs.Target.{target_violations};
 
 use crate::deprecated::check_deprecated_has_reason;
 use crate::limit::check_limit_value;
-use crate::word::Word;
 use diagnostic::Violations;
-use names::ValidationContext;
+use names::{ValidationContext, Word};
 use rules::{RecordRange, Violation};
 
 // Adds the error of an annotation with that word at record `i`, if a field of that type may not have it.
@@ -58,7 +57,7 @@ pub fn check_annotation(
 )
     ensures { Adds violations.old violations.new (annotation_violations (context_in context.entry) (records_in context.entry ty) (annotation_in context.entry annotation)) }
 {
-    let Some(word) = Word::at(context, annotation.start) else {
+    let Some(word) = context.word(annotation.start) else {
         return;
     };
     check_target(context, violations, word, annotation.start, ty);

@@ -4,12 +4,12 @@ ghost use Rattle.rules.specs.Annotations.{annotations_of, combined_violations};
 ghost use Rattle.names.specs.Known.{numbers_of, context_in, records_in};
 ghost use Rattle.diagnostic.specs.Violations.{Adds};
 ghost use Rattle.annotations.specs.FirstWith.{first_with, at_first};
-ghost use Rattle.annotations.specs.WordOf.{code_of};
+ghost use Rattle.names.specs.WordOf.{code_of};
 
 use crate::arguments::is_annotation;
-use crate::word::{Word, is_word};
+use crate::word::is_word;
 use diagnostic::Violations;
-use names::ValidationContext;
+use names::{ValidationContext, Word};
 use rules::{RecordRange, Violation};
 
 // The first annotation with that word, if there is one.

@@ -6,9 +6,9 @@ ghost use Rattle.diagnostic.specs.Violations.{Adds};
 ghost use Rattle.annotations.specs.AnnotationAt.{annotation_in};
 
 use crate::arguments::arguments;
-use crate::word::{Word, is_word};
+use crate::word::is_word;
 use diagnostic::Violations;
-use names::ValidationContext;
+use names::{ValidationContext, Word};
 use rules::{RecordRange, Violation};
 
 // Whether the annotation at the first record has a key `reason`.

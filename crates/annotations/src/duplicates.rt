@@ -8,9 +8,9 @@ ghost use Rattle.annotations.specs.Earlier.{is_compared_at, repeats_at};
 use crate::arguments::is_annotation;
 use crate::met::MetNames;
 use crate::named::NamedRecords;
-use crate::word::{Word, is_word};
+use crate::word::is_word;
 use diagnostic::Violations;
-use names::ValidationContext;
+use names::{ValidationContext, Word};
 use rules::{RecordRange, Violation};
 use sheet::kinds;
 

@@ -8,9 +8,9 @@ ghost use Rattle.annotations.specs.AnnotationAt.{annotation_in, is_number_at};
 ghost use Rattle.annotations.specs.LimitViolations.{limit_violations};
 
 use crate::arguments::arguments;
-use crate::word::{Word, is_word};
+use crate::word::is_word;
 use diagnostic::Violations;
-use names::ValidationContext;
+use names::{ValidationContext, Word};
 use rules::{RecordRange, Sheet, Violation};
 
 // The greatest sub of an argument that is a number: `Int` is 0, `Hex` is 1.
