@@ -1,10 +1,10 @@
 -- A walk over the records that the table is about, record by record: whether there is a wildcard, and how many declarations there are.
 use Prim.Native.Nat.{ℕ, ◌+◌, ◌≤◌, ◌<◌}
-use mathlib.Core.Path.{◌≡◌, refl, ◌∙◌, ap}
+use mathlib.Core.Path.{◌≡◌, refl, ◌∙◌, ap, ap₂}
 use mathlib.Core.Bool.{Bool, true, false, ◌||◌, or_assoc, or-false}
-use mathlib.Core.List.{List, ◌++◌}
+use mathlib.Core.List.{List, [], ◌∷◌}
 use native.Mathlib.Omega.{arith}
-use lib.ListN.{length, drop, set, take}
+use lib.ListN.{length, drop}
 use lib.Dec.{eqb}
 use mir.Val.{bool_byte}
 use Rattle.rules.specs.Words.{number_if, any_of, select}
@@ -13,7 +13,6 @@ use Rattle.rules.specs.Record.{is, decode, kind_in, record_bytes}
 use Rattle.names.specs.Parts.{known, known_count, record_of, totals}
 use Rattle.names.proofs.Known.{known-drop, known-end}
 use Rattle.names.proofs.Places.{count_next, count_none}
-use Rattle.names.proofs.Table.{totals-stored}
 
 -- a test that passed, as a number
 counted_one : (test : Bool) → bool_byte test ≡ number_if test 1
@@ -50,11 +49,11 @@ module _ (sheet names : List ℕ) where
                 (count_next (is Kind.Declaration) (known sheet names) j found before.declarations (record_of sheet names j) (drop (j + 1) (known sheet names)) (known-drop sheet names j (rw (← hn) h)));
           }
 
-    -- the two numbers, stored at the last two places
-    pub counted_all : n ≤ j → (t : List ℕ) → length t ≡ 5122 → (w : ℕ) → w ≡ bool_byte wildcard → set (set t 5120 w) 5121 found ≡ take 5120 t ++ totals sheet names
-    unfolding any_of
-    counted_all h t size w e =
-        totals-stored sheet names t w found wildcard size all (e ∙ counted_one wildcard)
+    -- the two numbers
+    pub counted_all : n ≤ j → (w : ℕ) → w ≡ bool_byte wildcard → w ∷ found ∷ [] ≡ totals sheet names
+    unfolding any_of totals
+    counted_all h w e =
+        ap₂ (λ (x y : ℕ). x ∷ y ∷ []) (e ∙ counted_one wildcard ∙ ap (λ b. number_if b 1) all)
         (count_none (is Kind.Declaration) (known sheet names) j found before.declarations (known-end sheet names j (rw (← hn) h)))
       where
         all : wildcard ≡ any_of (is Kind.Wildcard) (known sheet names)

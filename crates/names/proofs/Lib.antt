@@ -5,10 +5,11 @@ pub mod Found
 pub mod Columns
 pub mod Blocks
 pub mod Stored
+pub mod Joined
 pub mod WordCodes
 pub mod Numbers
 pub mod Targets
-pub mod Table
+pub mod TableWhole
 pub mod Entries
 pub mod CodeEntries
 pub mod FirstPlaces
@@ -23,3 +24,5 @@ pub mod Spreading
 pub mod Shortened
 pub mod Targeted
 pub mod Renamed
+pub mod Behind
+pub mod Chain

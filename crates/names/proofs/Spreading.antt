@@ -8,7 +8,7 @@ use mathlib.Core.Path.{◌≡◌, refl, ◌∙◌, sym, ap}
 use mathlib.Core.Bool.{Bool, true, false, not, ◌&&◌, ◌||◌, and-false, false≢true}
 use mathlib.Core.List.{List, ◌++◌}
 use lib.ListN.{length, get_or, take, set, length-set}
-use lib.Seq.{take_all, get_or-set_other, set-get_or}
+use lib.Seq.{take_all, set-get_or}
 use lib.Dec.{eqb}
 use borrow.Author.Tests.{lt-ltb, le-ltb, ne_eqb, eqb-true, not-true, not-false}
 use Rattle.rules.specs.declared.span.Span.{Span}
@@ -18,6 +18,7 @@ use Rattle.rules.specs.Record.{Rec, is}
 use Rattle.names.specs.NameTable.{place_of, is_keyed, is_named, same_name, id_in, declaration_in, import_in, target_in, code_of}
 use Rattle.names.specs.Notes.{has_id, declaration_note, import_note, id_noted, Part, Silent, Read, Spread}
 use Rattle.names.specs.Parts.{known, known_count, record_of, target_of, ids, declarations, imported, targets, codes}
+use Rattle.names.specs.SameEnds.{with_target}
 use Rattle.names.proofs.Columns.{column-past, length_ids, length-declarations, length-imported, length-targets, length-codes}
 use Rattle.names.proofs.FirstPlaces.{place-never, place-passes, any_place}
 use Rattle.names.proofs.Firsts.{id_at, id-unnamed, id-known, id-same-name, id-shared, id-within}
@@ -161,7 +162,7 @@ module _ (sheet names : List ℕ) where
     pub own-small : own < 1024
     own-small = let low = id-before i h in let same = own-id in let most = few in omega arith
 
-    module _ (place : ℕ) (ep : place ≡ get_or t (1024 + own) 0) (im : ℕ) (ei : im ≡ get_or (set t (1024 + i) place) (2048 + own) 0) where
+    module _ (place : ℕ) (ep : place ≡ get_or t (1024 + own) 0) (im : ℕ) (ei : im ≡ get_or t (2048 + own) 0) where
       place-noted : place ≡ declaration_note sheet names count (id i)
       place-noted =
           ep ∙ before.declaration-notes.at own own-small
@@ -169,8 +170,7 @@ module _ (sheet names : List ℕ) where
 
       import-read : im ≡ import_note sheet names count (id i)
       import-read =
-          let most = few in
-          ei ∙ get_or-set_other t (1024 + i) (2048 + own) place 0 (λ same. omega arith) ∙ before.import-notes.at own own-small
+          ei ∙ before.import-notes.at own own-small
           ∙ ap (import_note sheet names count) (ap (id_noted sheet names i) own-id ∙ noted-id i h)
 
       target-number : (v : ℕ) → v ≡ target_of rs place → v ≡ get_or (targets sheet names) i 0
@@ -241,11 +241,11 @@ module _ (sheet names : List ℕ) where
 
       pub spread-declared :
           (v p : ℕ) → p ≡ place → ((others : List ℕ) → v ≡ target_of (known sheet others) p) →
-          Spread sheet names (set (set (set t (1024 + i) place) (2048 + i) im) (3072 + i) v) (i + 1)
-      unfolding noted
+          Spread sheet names (with_target (set (set t (1024 + i) place) (2048 + i) im) i v) (i + 1)
+      unfolding noted with_target
       spread-declared v p same target =
           let most = few in
-          record {
+          rw (with_target, lt-ltb i 1024 most) (record {
             size = length-set noted (3072 + i) v ∙ size-noted;
             ids-part = part-behind ids-noted (3072 + i) v (omega arith);
             declaration-notes = part-behind declarations-noted (3072 + i) v (omega arith);
@@ -253,7 +253,7 @@ module _ (sheet names : List ℕ) where
             targets-part = part-set targets-noted i v (omega (arith, size-noted)) (λ k l differ. taken_next (targets sheet names) i k differ)
                 (target-number v (target names ∙ ap (target_of rs) same) ∙ sym (taken_here (targets sheet names) i));
             codes-part = part-ahead codes-noted (3072 + i) v (omega arith);
-          }
+          })
 
   -- where nothing is noted, there is nothing to spread
   module _ (t : List ℕ) (silent : (k : ℕ) → k < count → (get_or t (1024 + k) 0 ≡ 0) × (get_or t (2048 + k) 0 ≡ 0)) where
@@ -323,7 +323,7 @@ pub silent-none : (t : List ℕ) → Silent t 0
 unfolding Silent
 silent-none t k h = absurd (omega arith)
 
-neither : (a b c : Bool) → (a || b || c) ≡ false → (a ≡ false) × (b ≡ false) × (c ≡ false)
+neither : (a b c : Bool) → (a || (b || c)) ≡ false → (a ≡ false) × (b ≡ false) × (c ≡ false)
 neither false false false h = (refl, refl, refl)
 neither false false true h = absurd (false≢true (sym h))
 neither false true c h = absurd (false≢true (sym h))
@@ -333,19 +333,19 @@ zero-read : (n : ℕ) → not (eqb n 0) ≡ false → n ≡ 0
 zero-read n h = eqb-true n 0 (not-false (eqb n 0) h)
 
 pub silent-more :
-    (t : List ℕ) (noted : Bool) (n : ℕ) → (noted ≡ false → Silent t n) → (noted || not (eqb (get_or t (1024 + n) 0) 0) || not (eqb (get_or t (2048 + n) 0) 0)) ≡ false →
-    Silent t (n + 1)
+    (t : List ℕ) (noted : Bool) (n place imported : ℕ) → place ≡ get_or t (1024 + n) 0 → imported ≡ get_or t (2048 + n) 0 →
+    (noted ≡ false → Silent t n) → (noted || (not (eqb place 0) || not (eqb imported 0))) ≡ false → Silent t (n + 1)
 unfolding Silent
-silent-more t noted n before h = λ k l. go k l (dec_lt k n)
+silent-more t noted n place imported a b before h = λ k l. go k l (dec_lt k n)
   where
-    all : (noted ≡ false) × (not (eqb (get_or t (1024 + n) 0) 0) ≡ false) × (not (eqb (get_or t (2048 + n) 0) 0) ≡ false)
-    all = neither noted (not (eqb (get_or t (1024 + n) 0) 0)) (not (eqb (get_or t (2048 + n) 0) 0)) h
+    all : (noted ≡ false) × (not (eqb place 0) ≡ false) × (not (eqb imported 0) ≡ false)
+    all = neither noted (not (eqb place 0)) (not (eqb imported 0)) h
 
     go : (k : ℕ) → k < n + 1 → Dec (k < n) → (get_or t (1024 + k) 0 ≡ 0) × (get_or t (2048 + k) 0 ≡ 0)
     go k l (yes m) = before all.0 k m
     go k l (no m) =
         let same : k ≡ n = omega arith in
-        rw same (zero-read (get_or t (1024 + n) 0) all.1, zero-read (get_or t (2048 + n) 0) all.2)
+        rw (same, ← a, ← b) (zero-read place all.1, zero-read imported all.2)
 
 pub silent-whole : (t : List ℕ) (noted : Bool) (k n : ℕ) → (noted ≡ false → Silent t k) → k ≤ n → n ≤ k → not noted ≡ true → Silent t n
 silent-whole t noted k n before l m h =
@@ -360,6 +360,6 @@ spread-all sheet names t i n e a b before =
     all-spread sheet names t (rw last at before)
 
 -- what decides whether nothing is noted, and what spreads the notes
-pub ruleset silences = (silent-none, silent-more, silent-whole)
+pub ruleset silences = (silent-none, silent-whole)
 
 pub ruleset spreads = (own-small, none-spread, spread-all, known_bounds)

@@ -1,27 +1,18 @@
 // What a declaration is checked against: the sheet, and the table of its names, which is asked by the records that have them.
-ghost use Rattle.std.specs.Prelude.{◌≡◌, not, eqb};
-ghost use Rattle.names.specs.View.{entry_of, id_part, declaration_part, import_part, target_part, code_part, wildcard_of, declarations_of};
+ghost use Rattle.std.specs.Prelude.{◌≡◌, ◌<◌, not, eqb, IfSome};
+ghost use Rattle.rules.specs.Context as Context;
+ghost use Rattle.names.specs.View.{view_at, entry_of, id_part, declaration_part, import_part, target_part, code_part, wildcard_of, declarations_of};
 ghost use Rattle.names.specs.WordOf.{word_of};
-ghost use Rattle.names.specs.Known.{numbers_of, context_in, index_at};
+ghost use Rattle.names.specs.Known.{numbers_of, context_in, index_at, at_place};
 
+use crate::table::NameTable;
 use crate::words::{BIT, Word};
-use crate::{layout, lookup};
+use sheet::kinds;
 
 #[derive(Clone, Copy)]
 pub struct ValidationContext<'a> {
     pub sheet: &'a [u8],
-    pub table: &'a [u16; layout::SIZE],
-}
-
-// The record at a place of the table; none at 0.
-fn record_at(place: u16) -> Option<usize>
-    ensures { result ≡ index_at place }
-{
-    if place == 0 {
-        None
-    } else {
-        Some((place - 1) as usize)
-    }
+    pub table: &'a NameTable,
 }
 
 impl<'a> ValidationContext<'a> {
@@ -29,35 +20,37 @@ impl<'a> ValidationContext<'a> {
     pub fn id(self, i: usize) -> u16
         ensures { result ≡ entry_of id_part (numbers_of self.entry) i }
     {
-        lookup::id(self.table, i)
+        self.table.id(i)
     }
 
     // The first declaration of the name, if there is one.
     pub fn declaration(self, i: usize) -> Option<usize>
-        ensures { result ≡ index_at (entry_of declaration_part (numbers_of self.entry) i) }
+        ensures record { result ≡ index_at (entry_of declaration_part (numbers_of self.entry) i) }
+        ensures small { IfSome result (λ d. d < 65535) }
     {
-        record_at(lookup::declaration(self.table, i))
+        self.table.declaration(i)
     }
 
     // Whether the name is imported.
     pub fn is_imported(self, i: usize) -> bool
         ensures { result ≡ not (eqb (entry_of import_part (numbers_of self.entry) i) 0) }
     {
-        lookup::is_imported(self.table, i)
+        self.table.is_imported(i)
     }
 
     // The type that the name is declared with, if there is one.
     pub fn target(self, i: usize) -> Option<usize>
-        ensures { result ≡ index_at (entry_of target_part (numbers_of self.entry) i) }
+        ensures record { result ≡ index_at (entry_of target_part (numbers_of self.entry) i) }
+        ensures small { IfSome result (λ t. t < 65535) }
     {
-        record_at(lookup::target(self.table, i))
+        self.table.target(i)
     }
 
     // The name's code.
     pub fn code(self, i: usize) -> u16
         ensures { result ≡ entry_of code_part (numbers_of self.entry) i }
     {
-        lookup::code(self.table, i)
+        self.table.code(i)
     }
 
     // The word that the name is, if it is one.
@@ -79,13 +72,42 @@ impl<'a> ValidationContext<'a> {
     pub fn has_wildcard(self) -> bool
         ensures { result ≡ not (eqb (wildcard_of (numbers_of self.entry)) 0) }
     {
-        lookup::has_wildcard(self.table)
+        self.table.has_wildcard()
     }
 
     // How many declarations the sheet has.
     pub fn declarations(self) -> u16
         ensures { result ≡ declarations_of (numbers_of self.entry) }
     {
-        lookup::declarations(self.table)
+        self.table.declarations()
+    }
+
+    // The type behind record `i`, a type that names a newtype, if there is one.
+    #[tactic(auto, using(crate::proofs::Behind::behind_rules))]
+    pub fn behind(self, i: usize) -> Option<usize>
+        ensures record { at_place self.entry.sheet.now result ≡ Context.behind (context_in self.entry) (view_at self.entry.sheet.now i) }
+        ensures small { IfSome result (λ t. t < 65535) }
+    {
+        if sheet::kind(self.sheet, i) != kinds::NAMED {
+            return None;
+        }
+        self.declaration(i)?;
+        self.target(i)
+    }
+
+    // The type at the end of the chain of newtypes from type `i` on, or the one after as many steps as there are declarations.
+    #[tactic(auto, using(crate::proofs::Chain::chain_rules))]
+    pub fn chain_end(self, i: usize) -> usize
+        ensures end { view_at self.entry.sheet.now result ≡ Context.chain_end (context_in self.entry) (declarations_of (numbers_of self.entry)) (view_at self.entry.sheet.now i) }
+        ensures small { i < 65535 → result < 65535 }
+    {
+        let mut at = i;
+        for _ in 0..self.declarations() {
+            let Some(next) = self.behind(at) else {
+                return at;
+            };
+            at = next;
+        }
+        at
     }
 }

@@ -7,15 +7,15 @@ ghost use Rattle.names.specs.NamedRecord.{named_record, id_of, ChainedBefore};
 use crate::asked::is_compared;
 use crate::compare::same_bytes;
 use crate::hash::bucket;
-use crate::layout;
 use crate::own::{Named, name_at};
+use rules::Sheet;
 
 // The records that are the first with their name, in a chain for each bucket: the place of the last of each bucket, and of the one before
 // each record. A place is 0 where there is none, as in the table.
 #[derive(Drop)]
 pub struct Chains {
-    heads: [u16; layout::PART],
-    links: [u16; layout::PART],
+    heads: [u16; Sheet::MAX_RECORDS],
+    links: [u16; Sheet::MAX_RECORDS],
 }
 
 impl Chains {
@@ -24,8 +24,8 @@ impl Chains {
         ensures { (sheet names : List ℕ) → Chained sheet names result.heads result.links 0 }
     {
         Chains {
-            heads: [0; layout::PART],
-            links: [0; layout::PART],
+            heads: [0; Sheet::MAX_RECORDS],
+            links: [0; Sheet::MAX_RECORDS],
         }
     }
 

@@ -8,9 +8,9 @@ ghost use Rattle.names.specs.Parts.{known_count};
 use crate::asked::is_worded;
 use crate::codes::Spelling;
 use crate::ids::Chains;
-use crate::layout;
 use crate::notes::note;
 use crate::own::Named;
+use crate::table::NameTable;
 use crate::words::{BIT, word_code};
 use sheet::kinds;
 
@@ -36,18 +36,18 @@ pub fn read(
     sheet: &[u8],
     spelling: &mut Spelling,
     chains: &mut Chains,
-    table: &mut [u16; layout::SIZE],
+    table: &mut NameTable,
     i: usize,
 )
     requires { (i < known_count sheet.now) × Chained sheet.now spelling.old.names.now chains.old.heads chains.old.links i × Read sheet.now spelling.old.names.now table.old i i }
     ensures { (spelling.new.names ≡ spelling.old.names) × Chained sheet.now spelling.old.names.now chains.new.heads chains.new.links (i + 1) × Read sheet.now spelling.old.names.now table.new (i + 1) (i + 1) }
 {
     let Some(named) = Named::read(sheet, spelling.names, i) else {
-        table[layout::IDS + i] = i as u16;
+        table.set_id(i, i as u16);
         return;
     };
     let id = chains.next_id(&named);
-    table[layout::IDS + i] = id as u16;
-    table[layout::CODES + i] = next_code(&named, spelling);
+    table.set_id(i, id as u16);
+    table.set_code(i, next_code(&named, spelling));
     note(&named, table, id);
 }

@@ -12,4 +12,4 @@ pub returns-in-2 : goal.returns-in-2
 returns-in-2 c =
     let own = c.args.named.now in
     let kind = own.kind_is in
-    says_import _ _ _ own.known_record own.is_named _ c.requires.2 _ c.requires.0 c.requires.1 (cc)
+    rw c.note_import.ensures (says_import _ _ _ own.known_record own.is_named _ c.requires.2 _ c.requires.0 c.requires.1 (cc))
