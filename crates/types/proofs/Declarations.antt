@@ -1,29 +1,13 @@
 -- What the table says of a name's declaration is what the context says.
-use Rattle.std.proofs.Common.{◌≡◌, ℕ, zero, suc, Bool, false, List, eqb, refl, ap, ne_eqb}
-use Rattle.std.specs.Prelude.{Some, None, MatchOption}
-use Rattle.std.proofs.Math.Option.{some, none}
-use Rattle.rules.specs.Kind
-use Rattle.rules.specs.Record.{record_bytes, kind_in, sub_in}
-use Rattle.rules.specs.Context.{declared_as, behind}
-use Rattle.names.specs.View.{view_at, entry_of, declaration_part, target_part, declared_by, context_by}
+use Rattle.std.proofs.Common.{◌≡◌, ℕ, zero, suc, Bool, false, List, eqb, refl}
+use Rattle.std.specs.Prelude.{MatchOption}
+use Rattle.rules.specs.Record.{record_bytes, sub_in}
+use Rattle.rules.specs.Context.{declared_as}
+use Rattle.names.specs.View.{entry_of, declaration_part, context_by}
 use Rattle.names.specs.Known.{index_at}
-use Rattle.types.specs.Key.{at_place}
-
-target-at : (sheet : List ℕ) (n : ℕ) → elim n [ zero ↦ none | suc t ↦ some (view_at sheet t) ] ≡ at_place sheet (index_at n)
-target-at sheet zero = refl
-target-at sheet (suc n) = refl
+use Rattle.names.proofs.Behind.{undeclared, declared-at}
 
 module _ (table sheet : List ℕ) (i : ℕ) where
-  pub undeclared : entry_of declaration_part table i ≡ 0 → declared_by table sheet i ≡ none
-  unfolding declared_by
-  undeclared h = rw (declared_by, h)
-
-  pub declared-at : (d : ℕ) → entry_of declaration_part table i ≡ suc d →
-      declared_by table sheet i ≡ some (record { sub = sub_in (record_bytes sheet d); inner = at_place sheet (index_at (entry_of target_part table i)) })
-  unfolding declared_by
-  declared-at d h =
-      rw (declared_by, h) (ap (λ t. some (record { sub = sub_in (record_bytes sheet d); inner = t })) (target-at sheet (entry_of target_part table i)))
-
   -- what is said of the sub of the name's declaration, if it has one
   pub declared_says :
       (sub : ℕ) (b : Bool) → MatchOption (index_at (entry_of declaration_part table i)) (b ≡ false) (λ d. b ≡ eqb (sub_in (record_bytes sheet d)) sub) →
@@ -34,33 +18,5 @@ module _ (table sheet : List ℕ) (i : ℕ) where
       by :
           (place : ℕ) → entry_of declaration_part table i ≡ place → MatchOption (index_at place) (b ≡ false) (λ d. b ≡ eqb (sub_in (record_bytes sheet d)) sub) →
           b ≡ declared_as (context_by table sheet) sub i
-      by zero h says = rw (declared_as, undeclared h) says
-      by (suc d) h says = rw (declared_as, declared-at d h) says
-
-  -- the type behind the record: none where it names nothing, or nothing that is declared
-  pub behind_other : (kind_in (record_bytes sheet i) ≡ Kind.Named → ⊥) → behind (context_by table sheet) (view_at sheet i) ≡ none
-  unfolding view_at behind
-  behind_other other = rw (behind, ne_eqb _ _ other)
-
-  pub behind_undeclared :
-      kind_in (record_bytes sheet i) ≡ Kind.Named → index_at (entry_of declaration_part table i) ≡ None → behind (context_by table sheet) (view_at sheet i) ≡ none
-  unfolding view_at behind context_by
-  behind_undeclared named = by (entry_of declaration_part table i) refl
-    where
-      by : (place : ℕ) → entry_of declaration_part table i ≡ place → index_at place ≡ None → behind (context_by table sheet) (view_at sheet i) ≡ none
-      by zero h absent = rw (behind, named, undeclared h)
-      by (suc d) h absent = cc
-
-  pub behind_declared :
-      (d : ℕ) → kind_in (record_bytes sheet i) ≡ Kind.Named → index_at (entry_of declaration_part table i) ≡ Some d →
-      behind (context_by table sheet) (view_at sheet i) ≡ at_place sheet (index_at (entry_of target_part table i))
-  unfolding view_at behind context_by
-  behind_declared d named = by (entry_of declaration_part table i) refl
-    where
-      by :
-          (place : ℕ) → entry_of declaration_part table i ≡ place → index_at place ≡ Some d →
-          behind (context_by table sheet) (view_at sheet i) ≡ at_place sheet (index_at (entry_of target_part table i))
-      by zero h there = cc
-      by (suc e) h there = rw (behind, named, declared-at e h)
-
-pub ruleset behind_rules = (behind_other, behind_undeclared, behind_declared)
+      by zero h says = rw (declared_as, undeclared table sheet i h) says
+      by (suc d) h says = rw (declared_as, declared-at table sheet i d h) says

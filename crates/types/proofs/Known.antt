@@ -3,7 +3,7 @@ use Rattle.std.proofs.Common.{◌≡◌, ℕ, zero, suc, List, refl, is_some}
 use Rattle.rules.specs.Context.{is_declared}
 use Rattle.names.specs.View.{entry_of, declaration_part, context_by}
 use Rattle.names.specs.Known.{index_at}
-use Rattle.types.proofs.Declarations.{undeclared, declared-at}
+use Rattle.names.proofs.Behind.{undeclared, declared-at}
 
 module _ (table sheet : List ℕ) (i : ℕ) where
   pub declared_asked : is_some (index_at (entry_of declaration_part table i)) ≡ is_declared (context_by table sheet) i

@@ -1,5 +1,4 @@
 pub mod BitNames
-pub mod Chain
 pub mod Declarations
 pub mod Known
 pub mod Left

@@ -1,18 +1,10 @@
--- Bad keys, where the chain of newtypes has been followed to its end; and a record by its place.
-use Rattle.std.specs.Prelude.{ℕ, Bool, ◌&&◌, ◌||◌, List, eqb, Option, Some, None}
-use Rattle.std.proofs.Math.Option as Math
-use Rattle.rules.specs.declared.span.Span.{Span}
+-- Bad keys, where the chain of newtypes has been followed to its end.
+use Rattle.std.specs.Prelude.{Bool, ◌&&◌, ◌||◌, eqb}
 use Rattle.rules.specs.Words.{within}
 use Rattle.rules.specs.Kind
 use Rattle.rules.specs.Sub
 use Rattle.rules.specs.Record.{Rec, is}
 use Rattle.rules.specs.Context.{ValidationContext, declared_as}
-use Rattle.names.specs.View.{view_at}
-
--- the record with that index, if there is one
-abbrev pub at_place : List ℕ → Option ℕ → Math.Option (Rec ℕ Span)
-at_place sheet None = Math.none
-at_place sheet (Some i) = Math.some (view_at sheet i)
 
 module _ {N P : Type 0} (ctx : ValidationContext N P) where
   -- a declared message, union or config

@@ -1,32 +1,16 @@
 // Which types may be the key of a set or a map.
 ghost use Rattle.std.specs.Prelude.{◌≡◌};
-ghost use Rattle.rules.specs.Context.{chain_end};
 ghost use Rattle.rules.specs.Types.{is_invalid_map_key, key_violations};
 ghost use Rattle.diagnostic.specs.Violations.{Adds};
-ghost use Rattle.names.specs.View.{view_at, declarations_of};
-ghost use Rattle.names.specs.Known.{numbers_of, context_in, records_in};
+ghost use Rattle.names.specs.View.{view_at};
+ghost use Rattle.names.specs.Known.{context_in, records_in};
 ghost use Rattle.types.specs.Key.{is_without_key, is_invalid_end};
 
-use crate::declared::{behind, is_declared_as};
+use crate::declared::is_declared_as;
 use diagnostic::Violations;
 use names::ValidationContext;
 use rules::{RecordRange, Violation};
 use sheet::{kinds, subs};
-
-// The type at the end of the chain of newtypes from type `i` on, or the one after as many steps as there are declarations.
-#[tactic(auto, using(crate::proofs::Chain::chain_rules))]
-fn chain_end(context: ValidationContext, i: usize) -> usize
-    ensures { view_at context.entry.sheet.now result ≡ chain_end (context_in context.entry) (declarations_of (numbers_of context.entry)) (view_at context.entry.sheet.now i) }
-{
-    let mut at = i;
-    for _ in 0..context.declarations() {
-        let Some(next) = behind(context, at) else {
-            return at;
-        };
-        at = next;
-    }
-    at
-}
 
 // Whether the name of record `i` is declared as a message, a union or a config.
 fn is_without_key(context: ValidationContext, i: usize) -> bool
@@ -57,7 +41,7 @@ fn is_invalid_end(context: ValidationContext, i: usize) -> bool
 pub fn is_invalid_map_key(context: ValidationContext, i: usize) -> bool
     ensures { result ≡ is_invalid_map_key (context_in context.entry) (view_at context.entry.sheet.now i) }
 {
-    is_invalid_end(context, chain_end(context, i))
+    is_invalid_end(context, context.chain_end(i))
 }
 
 // Adds rule 8 at the key that the records start with.

@@ -7,4 +7,4 @@ use Rattle.types.proofs.own.is_known_type.Goals as goal
 pub returns : goal.returns
 unfolding context_by
 returns c =
-    rw (c.is_some.ensures, c.declaration.ensures, declared_asked (numbers_of c.args.context) c.args.context.sheet.now c.args.i, c.is_imported.ensures, c.has_wildcard.ensures)
+    rw (c.is_some.ensures, c.declaration.ensures.record, declared_asked (numbers_of c.args.context) c.args.context.sheet.now c.args.i, c.is_imported.ensures, c.has_wildcard.ensures)
