@@ -17,8 +17,8 @@ use sheet::kinds;
 // The code of the record's name.
 #[tactic(auto, using(crate::proofs::WordCodes::codes, crate::proofs::Numbers::again))]
 fn next_code(named: &Named, spelling: &mut Spelling) -> u16
-    requires { spelling.old.names.now ≡ named.now.names.now }
-    ensures { (result ≡ code_of named.now.kind named.now.name.now) × (spelling.new.names ≡ spelling.old.names) }
+    requires { spelling.old.names ≡ named.now.names.now }
+    ensures { (result ≡ code_of named.now.kind named.now.name.now) × (spelling.new ≡ spelling.old) }
 {
     if is_worded(named.kind) {
         return word_code(named.name);
@@ -39,10 +39,10 @@ pub fn read(
     table: &mut NameTable,
     i: usize,
 )
-    requires { (i < known_count sheet.now) × Chained sheet.now spelling.old.names.now chains.old.heads chains.old.links i × Read sheet.now spelling.old.names.now table.old i i }
-    ensures { (spelling.new.names ≡ spelling.old.names) × Chained sheet.now spelling.old.names.now chains.new.heads chains.new.links (i + 1) × Read sheet.now spelling.old.names.now table.new (i + 1) (i + 1) }
+    requires { (i < known_count sheet.now) × Chained sheet.now spelling.old.names chains.old.heads chains.old.links i × Read sheet.now spelling.old.names table.old i i }
+    ensures { (spelling.new ≡ spelling.old) × Chained sheet.now spelling.old.names chains.new.heads chains.new.links (i + 1) × Read sheet.now spelling.old.names table.new (i + 1) (i + 1) }
 {
-    let Some(named) = Named::read(sheet, spelling.names, i) else {
+    let Some(named) = Named::read(sheet, spelling.names(), i) else {
         table.set_id(i, i as u16);
         return;
     };

@@ -6,4 +6,4 @@ use Rattle.names.proofs.parts.read_records.Given as goal
 
 abbrev pub invariant-loop-i : goal.invariant-loop-i
 invariant-loop-i l =
-    (l.spelling.names.now ≡ l.names) × Chained l.sheet l.names l.chains.heads l.chains.links l.i × Read l.sheet l.names l.table l.i l.i
+    (l.spelling.names ≡ l.names) × Chained l.sheet l.names l.chains.heads l.chains.links l.i × Read l.sheet l.names l.table l.i l.i

@@ -1,24 +1,19 @@
--- The marks and the text stay the same, so a block that is good, or a piece that goes on, leaves what is behind to decide.
+-- A block that is good, or a piece that goes on, leaves what is behind to decide.
 use Rattle.std.proofs.Common.{arith, refl, sym, ◌∙◌}
 use Rattle.names.proofs.Blocks.{walk_on, walk_on_block}
 use Rattle.names.proofs.codes.Spelling.part_continues.Goals as goal
 
 pub loop-k-preserved-then-is_good : goal.loop-k-preserved-then-is_good
 loop-k-preserved-then-is_good c =
-    let inv = c.loop-k.invariant in
-    let kept = c.is_good.ensures.same in record {
-      same_marks = kept.0 ∙ inv.same_marks;
-      same_names = kept.1 ∙ inv.same_names;
-      walked = walk_on_block _ _ _ _ _ c.loop-k.auto.k (omega arith) c.requires.0 inv.walked
-          (rw (inv.same_marks, inv.same_names) at (c.is_good.ensures.told c.if-is_good.true));
-    }
+    let inv = c.loop-k.invariant in (
+      c.is_good.ensures.same ∙ inv.0,
+      walk_on_block _ _ _ _ _ c.loop-k.auto.k (omega arith) c.requires.0 inv.1 (rw inv.0 at (c.is_good.ensures.told c.if-is_good.true)),
+    )
 
 pub loop-k-preserved : goal.loop-k-preserved
 loop-k-preserved c =
-    let inv = c.loop-k.invariant in
-    let kept = c.is_good.ensures.same in record {
-      same_marks = kept.0 ∙ inv.same_marks;
-      same_names = kept.1 ∙ inv.same_names;
-      walked = walk_on _ _ _ _ _ _ _ c.loop-k.auto.k (omega arith) c.requires.0 refl refl inv.walked
-          (rw (kept.0, kept.1, inv.same_marks, inv.same_names) at (sym c.if-not-piece_continues.false ∙ c.piece_continues.ensures));
-    }
+    let inv = c.loop-k.invariant in (
+      c.is_good.ensures.same ∙ inv.0,
+      walk_on _ _ _ _ _ _ _ c.loop-k.auto.k (omega arith) c.requires.0 refl refl inv.1
+          (rw (c.is_good.ensures.same, inv.0) at (sym c.if-not-piece_continues.false ∙ c.piece_continues.ensures)),
+    )

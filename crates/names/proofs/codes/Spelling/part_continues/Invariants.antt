@@ -4,8 +4,4 @@ use Rattle.names.proofs.Blocks.{Walked}
 use Rattle.names.proofs.codes.Spelling.part_continues.Given as goal
 
 abbrev pub invariant-loop-k : goal.invariant-loop-k
-invariant-loop-k l = record {
-  same_marks : l.self.marks ≡ l.fn.self.marks;
-  same_names : l.self.names ≡ l.fn.self.names;
-  walked : Walked l.fn.self.marks.now l.fn.self.names.now l.start l.end l.k;
-}
+invariant-loop-k l = (l.self ≡ l.fn.self) × Walked l.fn.self.marks l.fn.self.names l.start l.end l.k
