@@ -1,16 +1,13 @@
 -- The list of a table's parts: a store into it is a store into the part that has the place.
-use Prim.Native.Nat.{ℕ, zero, suc, ◌+◌, ◌<◌}
+use Prim.Native.Nat.{ℕ, zero, suc, ◌+◌, ◌<◌, ◌≤◌}
 use native.Mathlib.Nat.{zero-add}
 use native.Mathlib.Omega.{arith}
 use mathlib.Core.Path.{◌≡◌, ◌∙◌, sym, ap}
-use mathlib.Core.Bool.{Bool, false, not, ◌||◌}
 use mathlib.Core.List.{List, ◌++◌}
 use lib.ListN.{length, get_or, take, set, length-set, get_or-append}
-use lib.Seq.{take-append_seam, get_or-append-add}
-use lib.Dec.{eqb}
+use lib.Seq.{take-append_seam, get_or-append-add, get_or-take, length-take-le}
 use Rattle.std.proofs.lemmas.List.{set-append_left, set-append_right, length-append}
 use Rattle.names.specs.Notes.{set_first, Silent}
-use Rattle.names.proofs.Spreading.{silent-more}
 
 -- a number of a list that stands behind another
 past : (p l : List ℕ) (n i v : ℕ) → length p ≡ n → set (p ++ l) (n + i) v ≡ p ++ set l i v
@@ -128,9 +125,13 @@ stored_there a b c d e f t i v whole la h none =
     there zero e0 = sym (stored_second a b c d e f i v la h)
     there (suc n) e0 = absurd (omega arith)
 
--- one id more at which nothing is noted
-pub silent_on :
-    (a b c d e f t : List ℕ) (noted : Bool) (n : ℕ) → a ++ b ++ c ++ d ++ e ++ f ≡ t → length a ≡ 1024 → length b ≡ 1024 → n < length b → n < length c →
-    (noted ≡ false → Silent t n) → (noted || (not (eqb (get_or b n 0) 0) || not (eqb (get_or c n 0) 0))) ≡ false → Silent t (n + 1)
-silent_on a b c d e f t noted n whole la lb hb hc =
-    silent-more t noted n (get_or b n 0) (get_or c n 0) (rw (← whole) (sym (read_second a b c d e f n la hb))) (rw (← whole) (sym (read_third a b c d e f n la lb hc)))
+-- nothing is noted where each number is 0
+pub silent_all :
+    (a b c d e f t : List ℕ) (n : ℕ) → a ++ b ++ c ++ d ++ e ++ f ≡ t → length a ≡ 1024 → length b ≡ 1024 → length c ≡ 1024 → n ≤ 1024 →
+    ((k : ℕ) → k < length (take n b) → get_or (take n b) k 0 ≡ 0) → ((k : ℕ) → k < length (take n c) → get_or (take n c) k 0 ≡ 0) → Silent t n
+unfolding Silent
+silent_all a b c d e f t n whole la lb lc few db dc k h =
+    rw (← whole) (
+      read_second a b c d e f k la (omega arith) ∙ sym (get_or-take n b k 0 h) ∙ db k (rw (length-take-le n b (omega arith)) h),
+      read_third a b c d e f k la lb (omega arith) ∙ sym (get_or-take n c k 0 h) ∙ dc k (rw (length-take-le n c (omega arith)) h),
+    )

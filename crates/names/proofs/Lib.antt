@@ -1,4 +1,5 @@
 pub mod Same
+pub mod Weights
 pub mod Known
 pub mod Places
 pub mod Found

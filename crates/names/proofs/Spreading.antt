@@ -5,12 +5,12 @@ use native.Mathlib.Decide.{dec_lt}
 use native.Mathlib.Numerals.{add-one}
 use native.Mathlib.Omega.{arith}
 use mathlib.Core.Path.{◌≡◌, refl, ◌∙◌, sym, ap}
-use mathlib.Core.Bool.{Bool, true, false, not, ◌&&◌, ◌||◌, and-false, false≢true}
+use mathlib.Core.Bool.{Bool, true, false, ◌&&◌, and-false}
 use mathlib.Core.List.{List, ◌++◌}
 use lib.ListN.{length, get_or, take, set, length-set}
 use lib.Seq.{take_all, set-get_or}
 use lib.Dec.{eqb}
-use borrow.Author.Tests.{lt-ltb, le-ltb, ne_eqb, eqb-true, not-true, not-false}
+use borrow.Author.Tests.{lt-ltb, le-ltb, ne_eqb}
 use Rattle.rules.specs.declared.span.Span.{Span}
 use Rattle.rules.specs.Kind
 use Rattle.rules.specs.Words.{number_if, any_of}
@@ -318,40 +318,6 @@ unfolding Silent
 none-spread sheet names t n e silent read =
     all-spread sheet names t (silent-spread sheet names t (λ k l. silent k (rw e l)) (known_count sheet) (omega arith) (spread_none sheet names t read))
 
--- one id more
-pub silent-none : (t : List ℕ) → Silent t 0
-unfolding Silent
-silent-none t k h = absurd (omega arith)
-
-neither : (a b c : Bool) → (a || (b || c)) ≡ false → (a ≡ false) × (b ≡ false) × (c ≡ false)
-neither false false false h = (refl, refl, refl)
-neither false false true h = absurd (false≢true (sym h))
-neither false true c h = absurd (false≢true (sym h))
-neither true b c h = absurd (false≢true (sym h))
-
-zero-read : (n : ℕ) → not (eqb n 0) ≡ false → n ≡ 0
-zero-read n h = eqb-true n 0 (not-false (eqb n 0) h)
-
-pub silent-more :
-    (t : List ℕ) (noted : Bool) (n place imported : ℕ) → place ≡ get_or t (1024 + n) 0 → imported ≡ get_or t (2048 + n) 0 →
-    (noted ≡ false → Silent t n) → (noted || (not (eqb place 0) || not (eqb imported 0))) ≡ false → Silent t (n + 1)
-unfolding Silent
-silent-more t noted n place imported a b before h = λ k l. go k l (dec_lt k n)
-  where
-    all : (noted ≡ false) × (not (eqb place 0) ≡ false) × (not (eqb imported 0) ≡ false)
-    all = neither noted (not (eqb place 0)) (not (eqb imported 0)) h
-
-    go : (k : ℕ) → k < n + 1 → Dec (k < n) → (get_or t (1024 + k) 0 ≡ 0) × (get_or t (2048 + k) 0 ≡ 0)
-    go k l (yes m) = before all.0 k m
-    go k l (no m) =
-        let same : k ≡ n = omega arith in
-        rw (same, ← a, ← b) (zero-read place all.1, zero-read imported all.2)
-
-pub silent-whole : (t : List ℕ) (noted : Bool) (k n : ℕ) → (noted ≡ false → Silent t k) → k ≤ n → n ≤ k → not noted ≡ true → Silent t n
-silent-whole t noted k n before l m h =
-    let same : k ≡ n = omega arith in
-    rw same at (before (not-true noted h))
-
 pub spread-all :
     (sheet names t : List ℕ) (i n : ℕ) → n ≡ known_count sheet → i ≤ n → n ≤ i → Spread sheet names t i →
     take 5120 t ≡ ids sheet names ++ declarations sheet names ++ imported sheet names ++ targets sheet names ++ codes sheet names
@@ -359,7 +325,5 @@ spread-all sheet names t i n e a b before =
     let last : i ≡ known_count sheet = omega arith in
     all-spread sheet names t (rw last at before)
 
--- what decides whether nothing is noted, and what spreads the notes
-pub ruleset silences = (silent-none, silent-whole)
-
+-- what spreads the notes
 pub ruleset spreads = (own-small, none-spread, spread-all, known_bounds)

@@ -6,7 +6,6 @@ use native.Mathlib.Omega.{arith}
 use mathlib.Core.Path.{◌≡◌, refl, ◌∙◌, sym, ap}
 use mathlib.Core.List.{List, [], ◌∷◌, ◌++◌}
 use lib.ListN.{length, get_or, take, drop, set, length-take, length-drop, get_or-eq_default}
-use Rattle.std.proofs.lemmas.List.{set-append_left, set-append_right, length-append}
 use lib.Seq.{get_or-take, get_or-drop, get_or-set_same, get_or-set_other, take-add, take-nil, ext_get_or}
 use Rattle.names.specs.Notes.{Part}
 

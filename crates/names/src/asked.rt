@@ -12,7 +12,8 @@ pub fn is_compared(kind: u8) -> bool
     !matches!(kind, kinds::VARIANT | kinds::ARGUMENT | kinds::BIT_NAME)
 }
 
-// Whether the name of a record of the kind may be a word.
+// Whether the name of a record of the kind may be a word. The kinds are those of an annotation's records, of which `bodies` asks where they end: two questions
+// that have one answer, each with a definition of its own.
 pub fn is_worded(kind: u8) -> bool
     ensures { result ≡ is_worded kind }
 {

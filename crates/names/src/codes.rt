@@ -102,6 +102,7 @@ impl<'a> Spelling<'a> {
         ensures told { result ≡ continue_by self.old.marks (take (end - start) (drop start self.old.names)) }
         ensures same { self.new ≡ self.old }
     {
+        // As `all` it is not proved: its closure would look at blocks through `self`, and nothing is known afterwards of what a closure changed.
         for k in start / BLOCK..end.div_ceil(BLOCK) {
             if self.is_good(k) {
                 continue;

@@ -4,7 +4,8 @@ ghost use Rattle.rules.specs.Words.{same_bytes};
 ghost use Rattle.sheet.specs.Window.{passes};
 ghost use Rattle.names.specs.Same.{same_at};
 
-// Whether the `n` bytes from `at` on are the same. No byte ends the loop early, so that many are compared at once.
+// Whether the `n` bytes from `at` on are the same. No byte ends the loop early, so that many are compared at once. As a `fold` of `zip` it is not proved: the
+// search finds no way from what `zip` gives to the bytes at each index.
 #[tactic(auto, using(crate::proofs::Same::windows), unfolding(crate::specs::Same::same_at))]
 fn window_same(a: &[u8], b: &[u8], at: usize, n: usize) -> bool
     requires { (at + n ≤ length a.now) × (at + n ≤ length b.now) }
@@ -17,7 +18,8 @@ fn window_same(a: &[u8], b: &[u8], at: usize, n: usize) -> bool
     all
 }
 
-// Whether both have the same bytes, by windows of `n` bytes; the last may overlap the one before it.
+// Whether both have the same bytes, by windows of `n` bytes; the last may overlap the one before it. As `all` over the windows it is not proved: nothing says
+// at its closure that a window lies within the names.
 #[tactic(auto, using(crate::proofs::Same::windows))]
 fn windows_same(a: &[u8], b: &[u8], n: usize) -> bool
     requires { (0 < n) × (n ≤ length a.now) × (length a.now ≡ length b.now) }
@@ -35,7 +37,8 @@ fn windows_same(a: &[u8], b: &[u8], n: usize) -> bool
     true
 }
 
-// Whether both have the same bytes, by windows that suit the length of a name. `==` looks at one byte after another, and takes a third longer where names share a bucket.
+// Whether both have the same bytes, by windows that suit the length of a name. `==` looks at one byte after another, which takes `collisions` from 258 to 346
+// microseconds; its bound is 300.
 #[tactic(auto, using(crate::proofs::Same::windows))]
 pub fn same_bytes(a: &[u8], b: &[u8]) -> bool
     ensures { result ≡ same_bytes a.now b.now }

@@ -9,12 +9,16 @@ use crate::table::NameTable;
 use crate::words::{BIT, Word};
 use sheet::kinds;
 
+// It goes beside the list of violations, as in the Rust: a struct of both would be lent by `&mut`, and each function that adds to the list would have to
+// promise besides that the context in it is still the same one, while the context alone is `Copy` and asks for no promise.
 #[derive(Clone, Copy)]
 pub struct ValidationContext<'a> {
     pub sheet: &'a [u8],
     pub table: &'a NameTable,
 }
 
+// The context is asked what the table alone says of a name as well as what it says together with the sheet (`behind`, `chain_end`), so that callers ask in one
+// way.
 impl<'a> ValidationContext<'a> {
     // The first record with the same name.
     pub fn id(self, i: usize) -> u16

@@ -1,8 +1,11 @@
 // The bucket of a name. Its bytes are weighed four at a time, those of a long name at its ends and in its middle.
 ghost use Rattle.std.specs.Prelude.{◌≡◌, ◌+◌, ◌*◌, ◌≤◌, ◌<◌, length, get_or};
-ghost use Rattle.names.specs.Buckets.{word_at, weighed_bytes, weighed_ends, weighed_next, weighed_middle, weighed, bucket_of};
+ghost use Rattle.names.specs.Buckets.{word_at, weighed_bytes, weighed, bucket_of};
 
-// The number in the four bytes from `at` on.
+use rules::Sheet;
+
+// The number in the four bytes from `at` on, which the caller knows to be there. The readers of `sheet` ask that of each call, since what another crate can name
+// has no `requires`.
 #[tactic(auto, unfolding(crate::specs::Buckets::word_at))]
 fn word(name: &[u8], at: usize) -> u64
     requires { at + 4 ≤ length name.now }
@@ -11,7 +14,7 @@ fn word(name: &[u8], at: usize) -> u64
     u64::from(u32::from_le_bytes([name[at], name[at + 1], name[at + 2], name[at + 3]]))
 }
 
-// The byte at `at`; 0 past the last.
+// The byte at `at`; 0 past the last. That of `sheet` is private to it, and reads a record's bytes.
 fn byte(name: &[u8], at: usize) -> u64
     ensures { (result ≡ get_or name.now at 0) × (result < 256) }
 {
@@ -25,29 +28,14 @@ fn bytes(name: &[u8]) -> u64
     506952121 * byte(name, 0) + 351452291 * byte(name, 1) + 302546453 * byte(name, 2)
 }
 
-// Its first four and its last four bytes.
-fn ends(name: &[u8]) -> u64
-    requires { 4 ≤ length name.now }
-    ensures { (result ≡ weighed_ends name.now) × (result < 4611686018427387904) }
+// The numbers in the four bytes from each of two places on, weighed.
+#[tactic(auto, using(crate::proofs::Weights::weighed_few))]
+fn pair(name: &[u8], first: u64, at: usize, second: u64, behind: usize) -> u64
+    requires weights { (first < 536870912) × (second < 536870912) }
+    requires places { (at + 4 ≤ length name.now) × (behind + 4 ≤ length name.now) }
+    ensures { (result ≡ first * word_at at name.now + second * word_at behind name.now) × (result < 4611686018427387904) }
 {
-    506952121 * word(name, 0) + 512927357 * word(name, name.len() - 4)
-}
-
-// The four after the first, and the four before the last.
-fn next(name: &[u8]) -> u64
-    requires { 8 ≤ length name.now }
-    ensures { (result ≡ weighed_next name.now) × (result < 4611686018427387904) }
-{
-    351452291 * word(name, 4) + 466848937 * word(name, name.len() - 8)
-}
-
-// Eight in its middle.
-fn middle(name: &[u8]) -> u64
-    requires { 8 ≤ length name.now }
-    ensures { (result ≡ weighed_middle name.now) × (result < 4611686018427387904) }
-{
-    let at = name.len() / 2;
-    302546453 * word(name, at) + 409637633 * word(name, at - 4)
+    first * word(name, at) + second * word(name, behind)
 }
 
 // The bytes, weighed.
@@ -59,13 +47,16 @@ fn weigh(name: &[u8]) -> u64
     if len < 4 {
         return bytes(name);
     }
+    let ends = pair(name, 506952121, 0, 512927357, len - 4);
     if len < 8 {
-        return ends(name);
+        return ends;
     }
+    let next = pair(name, 351452291, 4, 466848937, len - 8);
     if len < 17 {
-        return ends(name) + next(name);
+        return ends + next;
     }
-    ends(name) + next(name) + middle(name)
+    let middle = len / 2;
+    ends + next + pair(name, 302546453, middle, 409637633, middle - 4)
 }
 
 // The bucket.
@@ -74,5 +65,5 @@ pub fn bucket(name: &[u8]) -> usize
     ensures { (result ≡ bucket_of name.now) × (result < 1024) }
 {
     let sum = weigh(name);
-    ((sum / 262144 + sum / 1099511627776) % 1024) as usize
+    ((sum / 262144 + sum / 1099511627776) % Sheet::MAX_RECORDS as u64) as usize
 }

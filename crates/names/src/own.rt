@@ -6,7 +6,7 @@ ghost use Rattle.names.specs.Parts.{known_count, record_of};
 
 use rules::Sheet;
 
-// The bytes of record `i`.
+// The bytes of record `i`, which the caller knows to be there. `sheet` has the same with a test, since what another crate can name has no `requires`.
 fn own_bytes(sheet: &[u8], i: usize) -> &[u8]
     requires { i < length sheet.now / 32 }
     ensures { result.now ≡ record_bytes sheet.now i }

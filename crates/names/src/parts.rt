@@ -24,7 +24,8 @@ pub fn read_records(sheet: &[u8], names: &[u8], table: &mut NameTable)
     }
 }
 
-// Fills the declarations, the imports and the targets.
+// Fills the declarations, the imports and the targets. Here and in `spread` the names text is lent for the contract alone: that an id which is stored is that
+// of a record holds of the table of this text, and not of a table for any.
 #[tactic(auto, using(crate::proofs::Spreading::spreads))]
 pub fn spread_notes(sheet: &[u8], names: &[u8], table: &mut NameTable)
     requires { Read sheet.now names.now table.old (known_count sheet.now) (known_count sheet.now) }
@@ -44,7 +45,7 @@ pub fn spread_notes(sheet: &[u8], names: &[u8], table: &mut NameTable)
 pub fn fill_totals(sheet: &[u8], table: &mut NameTable)
     ensures { (names : List ℕ) → table.new ≡ take 5120 table.old ++ totals sheet.now names }
 {
-    // One loop for both, so that each kind is read once.
+    // One loop for both, so that each kind is read once. As a `fold` it is not proved: its closure does not know that the sum fits.
     let n = count(sheet);
     let mut wildcard = false;
     let mut found: u16 = 0;

@@ -31,6 +31,9 @@ fn next_code(named: &Named, spelling: &mut Spelling) -> u16
 }
 
 // Stores the id and the code of record `i`, and notes what it says of its name. A record without a fitting name is its own, and has code 0.
+//
+// One loop alone has what is lent here; a struct of it would hold the table by `&mut`, and its one method would have these clauses with `self.` before
+// each name.
 #[tactic(auto, using(crate::proofs::Known::known_bounds))]
 pub fn read(
     sheet: &[u8],
@@ -43,11 +46,11 @@ pub fn read(
     ensures { (spelling.new ≡ spelling.old) × Chained sheet.now spelling.old.names chains.new.heads chains.new.links (i + 1) × Read sheet.now spelling.old.names table.new (i + 1) (i + 1) }
 {
     let Some(named) = Named::read(sheet, spelling.names(), i) else {
-        table.set_id(i, i as u16);
+        table.set_id(i, i);
         return;
     };
     let id = chains.next_id(&named);
-    table.set_id(i, id as u16);
+    table.set_id(i, id);
     table.set_code(i, next_code(&named, spelling));
     note(&named, table, id);
 }

@@ -1,5 +1,5 @@
 // The table of names: what the rules ask of the name of each record.
-ghost use Rattle.std.specs.Prelude.{◌≡◌, ◌+◌, ◌<◌, ◌≤◌, true, not, eqb, [], ◌∷◌, ◌++◌, get_or, set, take, replicate, ltb, IfSome};
+ghost use Rattle.std.specs.Prelude.{◌≡◌, ◌+◌, ◌<◌, ◌≤◌, true, not, eqb, [], ◌∷◌, ◌++◌, ℕ, length, get_or, set, take, replicate, ltb, IfSome};
 ghost use Rattle.rules.specs.Words.{number_if};
 ghost use Rattle.names.specs.NameTable.{max_records};
 ghost use Rattle.names.specs.View.{entry_of, id_part, declaration_part, import_part, target_part, code_part, wildcard_of, declarations_of};
@@ -50,6 +50,13 @@ fn record_at(place: u16) -> Option<usize>
     ensures small { IfSome result (λ i. i < 65535) }
 {
     place.checked_sub(1).map(usize::from)
+}
+
+// Whether each number is 0.
+fn is_zero(numbers: &[u16]) -> bool
+    ensures { result ≡ true → (k : ℕ) → k < length numbers.now → get_or numbers.now k 0 ≡ 0 }
+{
+    numbers.iter().all(|number| *number == 0)
 }
 
 impl NameTable {
@@ -124,7 +131,7 @@ impl NameTable {
         self.declared
     }
 
-    // Has the table lead from the name of record `i` to the type at that place.
+    // Has the table lead from the name of record `i` to the type at that place, which is any number, as the numbers of a table are.
     #[tactic(auto, using(crate::proofs::Joined::stored_fourth), unfolding(crate::specs::SameEnds::with_target))]
     pub fn set_target(&mut self, i: usize, place: u16)
         ensures { self.new ≡ with_target self.old i place }
@@ -136,11 +143,11 @@ impl NameTable {
 
     // Stores the id of record `i`.
     #[tactic(auto, using(crate::proofs::Joined::stored_first))]
-    pub(crate) fn set_id(&mut self, i: usize, id: u16)
-        requires { i < 1024 }
+    pub(crate) fn set_id(&mut self, i: usize, id: usize)
+        requires { (i < 1024) × (id < 1024) }
         ensures { self.new ≡ set self.old (0 + i) id }
     {
-        self.ids[i] = id;
+        self.ids[i] = id as u16;
     }
 
     // Stores the code of record `i`.
@@ -193,17 +200,12 @@ impl NameTable {
     }
 
     // Whether nothing is noted at the first `n` ids.
-    #[tactic(auto, using(crate::proofs::Spreading::silences, crate::proofs::Joined::silent_on))]
+    #[tactic(auto, using(crate::proofs::Joined::silent_all))]
     pub(crate) fn is_silent(&self, n: usize) -> bool
         requires { n ≤ 1024 }
         ensures { result ≡ true → Silent self.now n }
     {
-        // No number ends the loop early, so that many are looked at at once.
-        let mut noted = false;
-        for k in 0..n {
-            noted |= (self.declarations[k] != 0) | (self.imported[k] != 0);
-        }
-        !noted
+        is_zero(&self.declarations[..n]) && is_zero(&self.imported[..n])
     }
 
     // Stores whether there is a wildcard, and how many declarations there are.

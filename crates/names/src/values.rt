@@ -4,7 +4,8 @@ ghost use Rattle.names.specs.Parts.{known, target_of};
 
 use crate::count::count;
 
-// The place of the type that stands directly after the newtype at that place; 0, as the table has it, after another declaration.
+// The place of the type that stands directly after the newtype at that place; 0 after another declaration. Both are places, as the table has them: an index
+// would be made of the one here, and a place again of the other where it is stored.
 #[tactic(auto, using(crate::proofs::Targets::targets))]
 pub fn target(sheet: &[u8], place: usize) -> u16
     requires { 0 < place }
