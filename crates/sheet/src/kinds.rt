@@ -1,6 +1,7 @@
 // The kinds of a record, and what each has. They are numbers and no enum: a kind is any byte of a sheet that may not have been judged, so that `sheet::kind` gives
 // any number, and each function here answers for every number. An enum would ask more of their callers.
 ghost use Rattle.std.specs.Prelude.{◌≡◌, length};
+ghost use Rattle.rules.specs.Words.{within};
 ghost use Rattle.rules.specs.Kind;
 
 use crate::subs;
@@ -97,6 +98,20 @@ pub fn is_condition(kind: u8) -> bool
     ensures { result ≡ Kind.is_condition kind }
 {
     matches!(kind, AND..=LEN_RANGE)
+}
+
+// Whether an item of a field list begins with a record of the kind.
+pub fn is_field_item(kind: u8) -> bool
+    ensures { result ≡ within Kind.Field Kind.Invariant kind }
+{
+    (FIELD <= kind) & (kind <= INVARIANT)
+}
+
+// Whether an item of an enum, flags or a union begins with a record of the kind.
+pub fn is_variant_item(kind: u8) -> bool
+    ensures { result ≡ within Kind.Variant Kind.Tombstone kind }
+{
+    (VARIANT <= kind) & (kind <= TOMBSTONE)
 }
 
 // Whether there is such a kind.
