@@ -4,20 +4,25 @@ use native.Mathlib.Omega.{arith}
 use mathlib.Core.Path.{◌≡◌, refl, sym, ap, ◌∙◌}
 use mathlib.Core.Bool.{Bool, true, false, ◌&&◌, false≢true}
 use mathlib.Core.List.{List, [], ◌∷◌}
-use lib.Dec.{leb}
-use borrow.Author.Tests.{lt-leb, not-true}
+use mathlib.Core.Logic.{◌⊎◌, inl, inr}
+use lib.Dec.{leb, eqb}
+use borrow.Author.Tests.{lt-leb, not-true, eqb-true}
 use Rattle.rules.specs.Words.{within}
 use Rattle.rules.specs.Kind
 use Rattle.rules.specs.Grammar as Grammar
-use Rattle.rules.specs.Grammar.{Due, TypeState, FieldListState, lifted, none_due, type_step, field_list_step, field_step, union_step, step, field, typed}
+use Rattle.rules.specs.Grammar.{Due, TypeState, FieldListState, lifted, none_due, guarded, part_step, type_step, field_list_step, field_step, enum_step, union_step, step, field, typed}
 use Rattle.rules.proofs.Taken.{within-true}
 use Rattle.refusals.specs.declared.state.Body.{Body}
 use Rattle.refusals.specs.declared.state.Item.{Item}
 use Rattle.refusals.specs.declared.state.State.{State}
 use Rattle.refusals.specs.Due.{bare}
 use Rattle.refusals.specs.States.{is_bits, type_item, type_in, type_with, in_body, in_fields, field_list_of, state_of, GoesOn}
-use Rattle.refusals.proofs.Items.{lifted_twice}
+use Rattle.refusals.proofs.Items.{lifted_twice, type_part}
 use Rattle.refusals.proofs.KindOnly.{list_kind, union_kind}
+
+and-both : (a b : Bool) → (a && b) ≡ true → (a ≡ true) × (b ≡ true)
+and-both true b h = (refl, h)
+and-both false b h = absurd (false≢true h)
 
 bits-item : (b : Bool) → is_bits (type_item b) ≡ b
 bits-item true = refl
@@ -30,6 +35,48 @@ type_in_context (Grammar.fault n) = refl
 pub type_in_newtype : (x : Grammar.Step TypeState) → lifted (type_in Body.Newtype) x ≡ lifted Grammar.newtype x
 type_in_newtype (Grammar.to t) = rw (bits-item t.bits) refl
 type_in_newtype (Grammar.fault n) = refl
+
+-- a newtype's inner type, of the context or of the body
+module _ (s : State) (ds : List Due) (kind : ℕ) (bits : Bool) (hb : bits ≡ is_bits s.item) where
+  abbrev inner : Grammar.Step Grammar.State
+  inner = lifted (type_in s.body) (type_step (type_with (is_bits s.item) ds) (bare kind 0))
+
+  inner-part : (bits && eqb kind 22) ≡ false → inner ≡ lifted (type_in s.body) (lifted (type_with (eqb kind 48)) (part_step ds (bare kind 0)))
+  inner-part f = ap (lifted (type_in s.body)) (type_part ds kind (is_bits s.item) (ap (λ b. b && eqb kind 22) (sym hb) ∙ f))
+
+  pub inner_fault : (n : ℕ) → (bits && eqb kind 22) ≡ false → Grammar.fault n ≡ part_step ds (bare kind 0) → Grammar.fault n ≡ inner
+  inner_fault n f e = ap (λ x. lifted (type_in s.body) (lifted (type_with (eqb kind 48)) x)) e ∙ sym (inner-part f)
+
+  pub inner_taken : (after : List Due) → (bits && eqb kind 22) ≡ false → Grammar.to after ≡ part_step ds (bare kind 0)
+      → Grammar.to (state_of (record { body = s.body; item = type_item (eqb kind 48) }) after) ≡ inner
+  unfolding state_of
+  inner_taken after f e = ap (λ x. lifted (type_in s.body) (lifted (type_with (eqb kind 48)) x)) e ∙ sym (inner-part f)
+
+  pub inner_bits : (bits && eqb kind 22) ≡ true → Grammar.to (state_of s ds) ≡ inner
+  unfolding state_of type_step
+  inner_bits t = go s.item (sym hb ∙ both.0) (eqb-true kind 22 both.1)
+    where
+      both : (bits ≡ true) × (eqb kind 22 ≡ true)
+      both = and-both bits (eqb kind 22) t
+
+      go : (i : Item) → is_bits i ≡ true → kind ≡ 22 → Grammar.to (in_body s.body i ds) ≡ lifted (type_in s.body) (type_step (type_with (is_bits i) ds) (bare kind 0))
+      go Item.Between h e = absurd (false≢true h)
+      go Item.Opened h e = absurd (false≢true h)
+      go Item.Annotated h e = absurd (false≢true h)
+      go Item.Typed h e = absurd (false≢true h)
+      go Item.BitNames h e = rw e refl
+      go Item.Conditioned h e = absurd (false≢true h)
+
+-- an item of an enum past its backing, or of flags
+pub items_step : (s : State) (ds : List Due) (kind sub : ℕ) (x : Grammar.Step Grammar.State) → (s.body ≡ Body.Backed) ⊎ (s.body ≡ Body.Flags)
+    → x ≡ guarded (within 14 15 kind) (Grammar.to (state_of s ds)) → x ≡ step (state_of s ds) (bare kind sub)
+unfolding state_of step enum_step
+items_step s ds kind sub x (inl e) h = h ∙ rw e (by (within 14 15 kind))
+  where
+    by : (b : Bool) → guarded b (Grammar.to (Grammar.enum Grammar.items)) ≡ lifted Grammar.enum (elim b [ true ↦ Grammar.to Grammar.items | false ↦ Grammar.fault 6 ])
+    by true = refl
+    by false = refl
+items_step s ds kind sub x (inr e) h = h ∙ rw e refl
 
 -- a step in a field list
 abbrev in_list : Body → FieldListState → Grammar.State
@@ -96,13 +143,19 @@ module _ (s : State) (ds : List Due) (kind sub : ℕ) (g : GoesOn s ds kind) whe
   here : in_fields s.body kind ≡ true
   here = ap (λ b. in_fields b kind) g.message
 
-  pub type_taken : (b : Bool) (after : List Due) → lifted (type_with b) (Grammar.to after) ≡ type_step (type_with false ds) (bare kind 0)
-      → Grammar.to (state_of (record { body = s.body; item = type_item b }) after) ≡ step (state_of s ds) (bare kind sub)
-  type_taken b after e = list_taken kind sub s ds here (type_item b) after (sym (typed-item b after) ∙ ap (lifted (λ t. field (typed t))) e ∙ sym type-list)
+  pub type_taken : (after : List Due) → Grammar.to after ≡ part_step ds (bare kind 0)
+      → Grammar.to (state_of (record { body = s.body; item = type_item (eqb kind 48) }) after) ≡ step (state_of s ds) (bare kind sub)
+  type_taken after e =
+      list_taken kind sub s ds here (type_item (eqb kind 48)) after
+      (sym (typed-item (eqb kind 48) after) ∙ ap (λ x. lifted (λ t. field (typed t)) (lifted (type_with (eqb kind 48)) x)) e
+      ∙ sym (ap (lifted (λ t. field (typed t))) (type_part ds kind false refl)) ∙ sym type-list)
     where
       typed-item : (b : Bool) (after : List Due) → Grammar.to (field (typed (type_with b after))) ≡ Grammar.to (field_list_of (type_item b) after)
       typed-item true after = refl
       typed-item false after = refl
 
-  pub type_fault : (n : ℕ) → Grammar.fault n ≡ type_step (type_with false ds) (bare kind 0) → Grammar.fault n ≡ step (state_of s ds) (bare kind sub)
-  type_fault n e = list_fault kind sub s ds here n (ap (lifted (λ t. field (typed t))) e ∙ sym type-list)
+  pub type_fault : (n : ℕ) → Grammar.fault n ≡ part_step ds (bare kind 0) → Grammar.fault n ≡ step (state_of s ds) (bare kind sub)
+  type_fault n e =
+      list_fault kind sub s ds here n
+      (ap (λ x. lifted (λ t. field (typed t)) (lifted (type_with (eqb kind 48)) x)) e
+      ∙ sym (ap (lifted (λ t. field (typed t))) (type_part ds kind false refl)) ∙ sym type-list)

@@ -1,5 +1,5 @@
 -- The states of the grammar, as the code holds them.
-use Rattle.std.specs.Prelude.{ℕ, ◌≡◌, Bool, true, false, not, ◌||◌, List, [], ◌∷◌, Result, Ok, Err, eqb}
+use Rattle.std.specs.Prelude.{ℕ, ◌≡◌, Bool, true, false, not, List, [], ◌∷◌, Result, Ok, Err, eqb}
 use Rattle.rules.specs.Words.{within}
 use Rattle.rules.specs.Kind
 use Rattle.rules.specs.Kind.{condition}
@@ -23,10 +23,6 @@ is_bits Item.Conditioned = false
 abbrev pub type_item : Bool → Item
 type_item true = Item.BitNames
 type_item false = Item.Typed
-
--- after a record of the kind, a bit name may come
-abbrev pub bits_after : ℕ → Bool
-bits_after kind = eqb kind Kind.BitName || eqb kind Kind.BitsInline
 
 abbrev pub type_with : Bool → List Due → TypeState
 type_with bits ds = record { bits = bits; due = ds }
@@ -95,8 +91,3 @@ step_of (Err why) s ds = Grammar.fault (number_of why)
 -- before the first record
 abbrev pub start_state : State
 start_state = record { body = Body.Context; item = Item.Between }
-
--- an enum, past its backing or before it
-abbrev pub enum_of : Bool → Grammar.EnumState
-enum_of true = Grammar.items
-enum_of false = Grammar.unbacked

@@ -33,7 +33,7 @@ fn behind(sheet: &[u8], table: &[u16; 5122], t: usize) -> Option<usize>
     }
     match names::target(table, t) {
         0 => None,
-        place => Some(place as usize - 1),
+        place => Some(usize::from(place) - 1),
     }
 }
 

@@ -1,14 +1,20 @@
 // The parts that are due.
 ghost use Rattle.std.specs.Prelude.{◌≡◌, [], ◌∷◌, false, ◌≤◌};
 ghost use Rattle.rules.specs.Kind;
-ghost use Rattle.rules.specs.Grammar.{due_at, none_due, part_step, type_step, lifted};
+ghost use Rattle.rules.specs.Grammar.{due_at, none_due, part_step};
 ghost use Rattle.refusals.specs.Parts.{part_in, part_of};
 ghost use Rattle.refusals.specs.Due.{bare, Taken, part_step_of, room, deepened};
-ghost use Rattle.refusals.specs.States.{bits_after, type_with};
 
-use rules::Refusal;
+use rules::{Refusal, Sheet};
 use sheet::kinds;
 use std::marker::Model;
+
+// The greatest depth, as an entry has it.
+const MAX_DEPTH: u8 = Sheet::MAX_DEPTH as u8;
+
+// So many entries hold all parts that are due: no part is ever due at more than one below the greatest depth, and each entry is deeper than the number
+// of those below it.
+const ENTRIES: usize = Sheet::MAX_DEPTH + 2;
 
 #[derive(Clone, Copy)]
 pub enum Part {
@@ -24,11 +30,10 @@ pub struct Entry {
     pub part: Part,
 }
 
-// The parts that are due: the first `height` entries, the last of them first. No part of depth 66 is ever due, and each entry is deeper than the
-// number of those below it, so that 66 entries hold all.
+// The parts that are due: the first `height` entries, the last of them first.
 #[derive(Drop)]
 pub struct Due {
-    entries: [Entry; 66],
+    entries: [Entry; ENTRIES],
     height: usize,
 }
 
@@ -44,28 +49,30 @@ impl Model for Due {
     ghost invariant = { λ d. Sound d.entries d.height };
 }
 
-// Whether the kind is one of the part.
-fn is_part(part: Part, kind: u8) -> bool
-    ensures { result ≡ Kind.is_part (part_in part) kind }
-{
-    match part {
-        Part::TypeExpr => sheet::is_type(kind),
-        Part::Condition => sheet::is_condition(kind),
-        Part::Operand => kind == kinds::OPERAND,
+impl Part {
+    // Which part the parts of a kind are.
+    fn of(kind: u8) -> Part
+        ensures { result ≡ part_of kind }
+    {
+        if kind < kinds::AND {
+            return Part::TypeExpr;
+        }
+        if kind < kinds::CMP {
+            return Part::Condition;
+        }
+        Part::Operand
     }
-}
 
-// Which part the parts of a kind are.
-fn part_of(kind: u8) -> Part
-    ensures { result ≡ part_of kind }
-{
-    if kind < kinds::AND {
-        return Part::TypeExpr;
+    // Whether the kind is one of the part.
+    fn holds(self, kind: u8) -> bool
+        ensures { result ≡ Kind.is_part (part_in self) kind }
+    {
+        match self {
+            Part::TypeExpr => sheet::is_type(kind),
+            Part::Condition => sheet::is_condition(kind),
+            Part::Operand => kind == kinds::OPERAND,
+        }
     }
-    if kind < kinds::CMP {
-        return Part::Condition;
-    }
-    Part::Operand
 }
 
 impl Due {
@@ -79,7 +86,7 @@ impl Due {
             part: Part::TypeExpr,
         };
         Due {
-            entries: [none; 66],
+            entries: [none; ENTRIES],
             height: 0,
         }
     }
@@ -107,7 +114,7 @@ impl Due {
     {
         let top = self.height - 1;
         let depth = self.entries[top].depth;
-        if 64 < depth {
+        if MAX_DEPTH < depth {
             return Err(Refusal::TooDeep); // row 7
         }
         let deeper = Entry {
@@ -116,7 +123,7 @@ impl Due {
         };
         self.entries[top] = deeper;
         self.entries[top + 1] = deeper;
-        self.height = top + sheet::part_count(kind) as usize;
+        self.height = top + usize::from(sheet::part_count(kind));
         Ok(())
     }
 
@@ -127,24 +134,10 @@ impl Due {
         if self.height == 0 {
             return Err(Refusal::OutOfOrder); // row 6
         }
-        if !is_part(self.entries[self.height - 1].part, kind) {
+        if !self.entries[self.height - 1].part.holds(kind) {
             return Err(Refusal::OutOfOrder); // row 6
         }
-        self.take(kind, part_of(kind))
-    }
-
-    // A type: a bit name where one may come, or the first part that is due.
-    #[tactic(auto, unfolding(rules::specs::Grammar::type_step))]
-    pub fn type_step(&mut self, bits: bool, kind: u8) -> Result<(), Refusal>
-        ensures { lifted (type_with (bits_after kind)) (part_step_of result self.new) ≡ type_step (type_with bits self.old) (bare kind 0) }
-    {
-        if kind == kinds::BIT_NAME {
-            if bits {
-                return Ok(());
-            }
-            return Err(Refusal::OutOfOrder); // row 6
-        }
-        self.part_step(kind)
+        self.take(kind, Part::of(kind))
     }
 
     // How many types of one part may come, each in the one before; none where no type is due.
@@ -156,7 +149,7 @@ impl Due {
         }
         let top = self.entries[self.height - 1];
         match top.part {
-            Part::TypeExpr => 65 - top.depth,
+            Part::TypeExpr => MAX_DEPTH + 1 - top.depth,
             _ => 0,
         }
     }

@@ -1,8 +1,9 @@
 // The items of a field list.
-ghost use Rattle.std.specs.Prelude.{◌≡◌};
+ghost use Rattle.std.specs.Prelude.{◌≡◌, true, false, eqb};
+ghost use Rattle.rules.specs.Kind;
 ghost use Rattle.rules.specs.Grammar.{part_step, type_step, field_step, field_list_step, field_list_done, in_field_item, lifted, field, typed, conditioned, annotations, type_due};
 ghost use Rattle.refusals.specs.Due.{bare};
-ghost use Rattle.refusals.specs.States.{field_list_of, begun_by, condition_due, type_with, type_item, bits_after, item_step_of};
+ghost use Rattle.refusals.specs.States.{field_list_of, begun_by, condition_due, type_with, type_item, item_step_of};
 
 use crate::due::{Due, Part};
 use crate::state::Item;
@@ -20,21 +21,22 @@ pub fn is_done(due: &Due, item: Item) -> bool
     }
 }
 
-// Where a type stands after a record of the kind.
+// Where a type stands after a record of the kind, one of its parts: a bit name may come after an inline type of bits.
 pub fn after_type(kind: u8) -> Item
-    ensures { result ≡ type_item (bits_after kind) }
+    ensures { result ≡ type_item (eqb kind Kind.BitsInline) }
 {
-    if (kind == kinds::BIT_NAME) | (kind == kinds::BITS_INLINE) {
+    if kind == kinds::BITS_INLINE {
         return Item::BitNames;
     }
     Item::Typed
 }
 
-// A field in its type.
-fn typed_step(due: &mut Due, bits: bool, kind: u8) -> Result<Item, Refusal>
-    ensures { item_step_of result due.new ≡ lifted (λ t. field (typed t)) (type_step (type_with bits due.old) (bare kind 0)) }
+// A part of a field's type.
+#[tactic(auto, using(crate::proofs::Items::type_part))]
+fn type_part(due: &mut Due, kind: u8) -> Result<Item, Refusal>
+    ensures { item_step_of result due.new ≡ lifted (λ t. field (typed t)) (type_step (type_with false due.old) (bare kind 0)) }
 {
-    due.type_step(bits, kind)?;
+    due.part_step(kind)?;
     Ok(after_type(kind))
 }
 
@@ -43,24 +45,29 @@ fn type_begins(due: &mut Due, kind: u8) -> Result<Item, Refusal>
     ensures { item_step_of result due.new ≡ lifted (λ t. field (typed t)) (type_step type_due (bare kind 0)) }
 {
     due.begin(Part::TypeExpr);
-    typed_step(due, false, kind)
+    type_part(due, kind)
 }
 
-// A field after its annotations: one more of them, an argument where one may come, or the type.
-#[tactic(auto, using(crate::proofs::Items::lifted_twice), unfolding(rules::specs::Grammar::field_step))]
-fn annotated_step(due: &mut Due, arguments: bool, kind: u8) -> Result<Item, Refusal>
-    ensures { item_step_of result due.new ≡ lifted field (field_step (annotations arguments) (bare kind 0)) }
+// A field, where an annotation or the type may come.
+#[tactic(auto, using(crate::proofs::Items::opened_type), unfolding(rules::specs::Grammar::field_step))]
+fn opened_step(due: &mut Due, kind: u8) -> Result<Item, Refusal>
+    ensures { item_step_of result due.new ≡ lifted field (field_step (annotations false) (bare kind 0)) }
 {
     if kind == kinds::ANNOTATION {
         return Ok(Item::Annotated);
     }
-    if kind == kinds::ARGUMENT {
-        if arguments {
-            return Ok(Item::Annotated);
-        }
-        return Err(Refusal::OutOfOrder); // row 6
-    }
     type_begins(due, kind)
+}
+
+// A field in its annotations, where an argument may come besides.
+#[tactic(auto, unfolding(rules::specs::Grammar::field_step))]
+fn annotated_step(due: &mut Due, kind: u8) -> Result<Item, Refusal>
+    ensures { item_step_of result due.new ≡ lifted field (field_step (annotations true) (bare kind 0)) }
+{
+    if kind == kinds::ARGUMENT {
+        return Ok(Item::Annotated);
+    }
+    opened_step(due, kind)
 }
 
 // A field in its condition.
@@ -80,17 +87,25 @@ fn condition_begins(due: &mut Due, kind: u8) -> Result<Item, Refusal>
 }
 
 // A field in its type: the type goes on, or a condition begins where the type has ended.
-#[tactic(auto, using(crate::proofs::Items::lifted_twice), unfolding(rules::specs::Grammar::field_step))]
-fn type_or_condition(due: &mut Due, bits: bool, kind: u8) -> Result<Item, Refusal>
-    ensures { item_step_of result due.new ≡ lifted field (field_step (typed (type_with bits due.old)) (bare kind 0)) }
+#[tactic(auto, using(crate::proofs::Items::condition_instead, crate::proofs::Items::lifted_twice), unfolding(rules::specs::Grammar::field_step))]
+fn typed_step(due: &mut Due, kind: u8) -> Result<Item, Refusal>
+    ensures { item_step_of result due.new ≡ lifted field (field_step (typed (type_with false due.old)) (bare kind 0)) }
 {
-    if kind == kinds::BIT_NAME {
-        return typed_step(due, bits, kind);
-    }
     if due.is_empty() {
         return condition_begins(due, kind);
     }
-    typed_step(due, bits, kind)
+    type_part(due, kind)
+}
+
+// A field in its type, where a bit name may come besides.
+#[tactic(auto, using(crate::proofs::Items::bit_name_taken, crate::proofs::Items::bits_aside))]
+fn bit_names_step(due: &mut Due, kind: u8) -> Result<Item, Refusal>
+    ensures { item_step_of result due.new ≡ lifted field (field_step (typed (type_with true due.old)) (bare kind 0)) }
+{
+    if kind == kinds::BIT_NAME {
+        return Ok(Item::BitNames);
+    }
+    typed_step(due, kind)
 }
 
 // A record within an item.
@@ -100,10 +115,10 @@ fn within_item(due: &mut Due, item: Item, kind: u8) -> Result<Item, Refusal>
 {
     match item {
         Item::Between => Err(Refusal::OutOfOrder), // row 6
-        Item::Opened => annotated_step(due, false, kind),
-        Item::Annotated => annotated_step(due, true, kind),
-        Item::Typed => type_or_condition(due, false, kind),
-        Item::BitNames => type_or_condition(due, true, kind),
+        Item::Opened => opened_step(due, kind),
+        Item::Annotated => annotated_step(due, kind),
+        Item::Typed => typed_step(due, kind),
+        Item::BitNames => bit_names_step(due, kind),
         Item::Conditioned => conditioned_step(due, kind),
     }
 }
@@ -123,7 +138,7 @@ fn begun(kind: u8) -> Item
 pub fn field_list_step(due: &mut Due, item: Item, kind: u8) -> Result<Item, Refusal>
     ensures { item_step_of result due.new ≡ field_list_step (field_list_of item due.old) (bare kind 0) }
 {
-    if (kinds::FIELD <= kind) & (kind <= kinds::INVARIANT) {
+    if sheet::is_field_item(kind) {
         if is_done(due, item) {
             return Ok(begun(kind));
         }

@@ -5,7 +5,7 @@ ghost use Rattle.rules.specs.Grammar as Grammar;
 ghost use Rattle.refusals.specs.declared.state.Body.TheVariants.{Context};
 ghost use Rattle.refusals.specs.declared.state.Item.{Item};
 ghost use Rattle.refusals.specs.Due.{bare};
-ghost use Rattle.refusals.specs.States.{is_bits, type_with, type_in, in_fields, GoesOn, field_list_of, enum_of, state_of, start_state, step_of};
+ghost use Rattle.refusals.specs.States.{is_bits, type_with, type_in, in_fields, GoesOn, field_list_of, state_of, start_state, step_of};
 
 use crate::due::{Due, Part};
 use crate::fields::{after_type, field_list_step, is_done};
@@ -13,22 +13,25 @@ use crate::state::{Body, Item, State};
 use rules::Refusal;
 use sheet::{kinds, subs};
 
-// Whether the kind begins an item of an enum, flags or a union.
-fn starts_item(kind: u8) -> bool
-    ensures { result ≡ within 14 15 kind }
-{
-    (kinds::VARIANT <= kind) & (kind <= kinds::TOMBSTONE)
-}
-
 // Whether a record of the kind is one of a field list: in a message each, in a variant each that begins no item of the union.
 fn in_fields(body: Body, kind: u8) -> bool
     ensures { result ≡ in_fields body kind }
 {
     match body {
         Body::Message => true,
-        Body::Variant => !starts_item(kind),
+        Body::Variant => !sheet::is_variant_item(kind),
         _ => false,
     }
+}
+
+// An item of an enum past its backing, or of flags: the state stays as it is.
+fn item_step(kind: u8) -> Result<(), Refusal>
+    ensures { (s : State) (ds : List Grammar.Due) → step_of result s ds ≡ Grammar.guarded (within 14 15 kind) (Grammar.to (state_of s ds)) }
+{
+    if sheet::is_variant_item(kind) {
+        return Ok(());
+    }
+    Err(Refusal::OutOfOrder) // row 6
 }
 
 impl State {
@@ -79,20 +82,23 @@ impl State {
         ensures { state_of self.new due.new ≡ Grammar.opened sub }
     {
         match sub {
-            0 => self.enter(Body::Message),
-            1 => self.enter(Body::Unbacked),
-            2 => self.enter(Body::Flags),
-            3 => self.enter(Body::Outside),
+            subs::MESSAGE => self.enter(Body::Message),
+            subs::ENUM => self.enter(Body::Unbacked),
+            subs::FLAGS => self.enter(Body::Flags),
+            subs::UNION => self.enter(Body::Outside),
             _ => self.enter_type(due, Body::Newtype),
         }
     }
 
     // A newtype's inner type, of the context or of the body.
-    #[tactic(auto, unfolding(crate::specs::States::state_of))]
+    #[tactic(auto, using(crate::proofs::Bodies::inner_bits, crate::proofs::Bodies::inner_fault, crate::proofs::Bodies::inner_taken))]
     fn inner_step(&mut self, due: &mut Due, kind: u8) -> Result<(), Refusal>
         ensures { step_of result self.new due.new ≡ Grammar.lifted (type_in self.old.body) (Grammar.type_step (type_with (is_bits self.old.item) due.old) (bare kind 0)) }
     {
-        due.type_step(self.item == Item::BitNames, kind)?;
+        if (self.item == Item::BitNames) & (kind == kinds::BIT_NAME) {
+            return Ok(());
+        }
+        due.part_step(kind)?;
         self.item = after_type(kind);
         Ok(())
     }
@@ -132,32 +138,13 @@ impl State {
         self.inner_step(due, kind)
     }
 
-    // An enum: its backing where it may come, or an item.
+    // An enum before its backing: the backing, or an item.
     #[tactic(auto, unfolding(rules::specs::Grammar::enum_step, crate::specs::States::state_of))]
-    fn enum_step(&mut self, backed: bool, kind: u8) -> Result<(), Refusal>
-        ensures { (ds : List Grammar.Due) → step_of result self.new ds ≡ Grammar.lifted Grammar.enum (Grammar.enum_step (enum_of backed) (bare kind 0)) }
+    fn unbacked_step(&mut self, kind: u8) -> Result<(), Refusal>
+        ensures { (ds : List Grammar.Due) → step_of result self.new ds ≡ Grammar.lifted Grammar.enum (Grammar.enum_step Grammar.unbacked (bare kind 0)) }
     {
-        if starts_item(kind) {
+        if sheet::is_variant_item(kind) | (kind == kinds::BACKING) {
             self.enter(Body::Backed);
-            return Ok(());
-        }
-        if backed {
-            return Err(Refusal::OutOfOrder); // row 6
-        }
-        if kind == kinds::BACKING {
-            self.enter(Body::Backed);
-            return Ok(());
-        }
-        Err(Refusal::OutOfOrder) // row 6
-    }
-
-    // Flags: an item.
-    #[tactic(auto, unfolding(rules::specs::Grammar::step, crate::specs::States::state_of))]
-    fn flags_step(&mut self, kind: u8) -> Result<(), Refusal>
-        ensures { (ds : List Grammar.Due) → step_of result self.new ds ≡ Grammar.step Grammar.flags (bare kind 0) }
-    {
-        if starts_item(kind) {
-            self.enter(Body::Flags);
             return Ok(());
         }
         Err(Refusal::OutOfOrder) // row 6
@@ -179,7 +166,7 @@ impl State {
     fn outside_step(&mut self, kind: u8) -> Result<(), Refusal>
         ensures { (ds : List Grammar.Due) → step_of result self.new ds ≡ Grammar.lifted Grammar.union (Grammar.union_step Grammar.outside (bare kind 0)) }
     {
-        if starts_item(kind) {
+        if sheet::is_variant_item(kind) {
             self.union_item(kind);
             return Ok(());
         }
@@ -200,7 +187,7 @@ impl State {
     }
 
     // A step in no field list, and so not in a message.
-    #[tactic(auto, using(crate::proofs::KindOnly::type_kind, crate::proofs::KindOnly::enum_kind, crate::proofs::KindOnly::union_kind, crate::proofs::Bodies::type_in_newtype), unfolding(rules::specs::Grammar::step, crate::specs::States::state_of))]
+    #[tactic(auto, using(crate::proofs::KindOnly::type_kind, crate::proofs::KindOnly::enum_kind, crate::proofs::KindOnly::union_kind, crate::proofs::Bodies::items_step, crate::proofs::Bodies::type_in_newtype), unfolding(rules::specs::Grammar::step, crate::specs::States::state_of))]
     fn other_step(&mut self, due: &mut Due, kind: u8, sub: u8) -> Result<(), Refusal>
         requires { in_fields self.old.body kind ≡ false }
         ensures { step_of result self.new due.new ≡ Grammar.step (state_of self.old due.old) (bare kind sub) }
@@ -208,9 +195,8 @@ impl State {
         match self.body {
             Body::Context => self.context_step(due, kind, sub),
             Body::Message => Err(Refusal::OutOfOrder),
-            Body::Unbacked => self.enum_step(false, kind),
-            Body::Backed => self.enum_step(true, kind),
-            Body::Flags => self.flags_step(kind),
+            Body::Unbacked => self.unbacked_step(kind),
+            Body::Backed | Body::Flags => item_step(kind),
             Body::Outside => self.outside_step(kind),
             Body::Variant => self.variant_item(due, kind),
             Body::Newtype => self.inner_step(due, kind),
@@ -236,7 +222,7 @@ impl State {
         ensures { step_of result self.new due.new ≡ Grammar.step (state_of self.old due.old) (bare kind sub) }
     {
         if self.type_goes_on(due, kind) {
-            due.type_step(false, kind)?;
+            due.part_step(kind)?;
             self.item = after_type(kind);
             return Ok(());
         }

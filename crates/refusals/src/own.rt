@@ -70,7 +70,7 @@ fn is_unknown(sheet: &[u8], i: usize) -> bool
     let kind = sheet::kind(sheet, i);
     let sub = byte(sheet, i, 1);
     let limit = sub_limit(kind);
-    !(((sub as u16) < limit) & sheet::is_clean(sheet, i))
+    !((u16::from(sub) < limit) & sheet::is_clean(sheet, i))
 }
 
 // Row 4: whether the name part ends beyond the names text.

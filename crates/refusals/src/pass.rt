@@ -22,7 +22,7 @@ fn is_second(table: &[u16; 5122], i: usize) -> bool
     requires { i < 1024 }
     ensures { result ≡ is_second table.now i }
 {
-    names::declaration(table, i) as usize != i + 1
+    usize::from(names::declaration(table, i)) != i + 1
 }
 
 // Rows 6 to 8 at record `i`. Only a declaration and a head are asked for their sub, and both have one.

@@ -58,7 +58,7 @@ fn nests_end(sheet: &[u8], names: &[u8], due: &mut Due, i: usize) -> usize
     if room == 0 {
         return i;
     }
-    let limit = sheet::records(sheet).min(i + room as usize);
+    let limit = sheet::records(sheet).min(i + usize::from(room));
     let end = plain_end(sheet, names, Run::Nests, i, limit);
     due.deepen((end - i) as u8);
     end
