@@ -7,7 +7,8 @@ use mathlib.Core.Path.{◌≡◌, refl, sym, ap, ◌∙◌, subst}
 use mathlib.Core.Bool.{Bool, true, false, not, ◌&&◌, ◌||◌, false≢true}
 use mathlib.Core.List.{List, [], ◌∷◌}
 use mathlib.Core.Option.{none}
-use Rattle.std.specs.Prelude.{Ok}
+use Rattle.std.specs.Prelude as std
+use Rattle.std.specs.Prelude.{Ok, MatchOption, unwrap_or, ⊤}
 use Rattle.names.specs.View.{view_at}
 use lib.ListN.{length, get_or, drop}
 use lib.Dec.{eqb, leb}
@@ -21,15 +22,13 @@ use Rattle.rules.specs.Grammar as Grammar
 use Rattle.rules.specs.Grammar.{Due, due_at, none_due, lifted, step, context_step, field_list_step, field_step, type_step, part_step}
 use Rattle.rules.specs.Refusals.{own_fault}
 use Rattle.rules.proofs.Taken.{within-true}
-use Rattle.refusals.specs.declared.runs.Run.{Run}
-use Rattle.refusals.specs.declared.runs.Run.TheVariants.{Imports, BitNames, Nests}
 use Rattle.refusals.specs.declared.state.Body.{Body}
 use Rattle.refusals.specs.declared.state.Item.{Item}
 use Rattle.refusals.specs.declared.state.State.{State}
 use Rattle.refusals.specs.Due.{bare, room, deepened}
 use Rattle.refusals.specs.States.{type_with, in_body, state_of}
 use Rattle.refusals.specs.Pass.{or_second, record_step_by, first_fault_by, Ended}
-use Rattle.refusals.specs.Runs.{InRun, Plain, Ran, at}
+use Rattle.refusals.specs.Runs.{is_import, is_bit_name, is_nest, Plain, Ran, at}
 use Rattle.refusals.proofs.OwnFaults.{own_none, name_fits}
 use Rattle.refusals.proofs.Passes.{grammar_then, pass_again}
 
@@ -53,11 +52,17 @@ record Quiet (kind : ℕ) : Type 0 where
   ordinal : Kind.has_ordinal kind ≡ false
   other : eqb kind Kind.Declaration ≡ false
 
-quiet-kind : (run : Run) (kind : ℕ) → InRun run kind → Quiet kind
+quiet-import : (kind : ℕ) → is_import kind ≡ true → Quiet kind
 unfolding look_up any_of
-quiet-kind Imports kind h = subst Quiet (sym h) (record { known = refl; subs = refl; ordinal = refl; other = refl })
-quiet-kind BitNames kind h = subst Quiet (sym h) (record { known = refl; subs = refl; ordinal = refl; other = refl })
-quiet-kind Nests kind h =
+quiet-import kind h = subst Quiet (sym (eqb-true kind 2 h)) (record { known = refl; subs = refl; ordinal = refl; other = refl })
+
+quiet-bit-name : (kind : ℕ) → is_bit_name kind ≡ true → Quiet kind
+unfolding look_up any_of
+quiet-bit-name kind h = subst Quiet (sym (eqb-true kind 22 h)) (record { known = refl; subs = refl; ordinal = refl; other = refl })
+
+quiet-nest : (kind : ℕ) → is_nest kind ≡ true → Quiet kind
+unfolding look_up any_of
+quiet-nest kind h =
     nest-cases Quiet kind h (record { known = refl; subs = refl; ordinal = refl; other = refl })
     (record { known = refl; subs = refl; ordinal = refl; other = refl }) (record { known = refl; subs = refl; ordinal = refl; other = refl })
     (record { known = refl; subs = refl; ordinal = refl; other = refl })
@@ -88,19 +93,19 @@ module _ (names b : List ℕ) (kind : ℕ) (quiet : Quiet kind) (k : kind_in b �
       ∙ ap (λ (one : Bool). or_second (one && second) (Grammar.to t)) (ap (λ (n : ℕ). eqb n 1) k ∙ quiet.other)))
 
 -- the steps
-import-step : (kind sub : ℕ) → InRun Imports kind → step Grammar.start (bare kind sub) ≡ Grammar.to Grammar.start
+import-step : (kind sub : ℕ) → is_import kind ≡ true → step Grammar.start (bare kind sub) ≡ Grammar.to Grammar.start
 unfolding step context_step
-import-step kind sub h = rw h
+import-step kind sub h = rw (eqb-true kind 2 h)
 
-bit-step : (ds : List Due) (kind sub : ℕ) → InRun BitNames kind → step (in_body Body.Message Item.BitNames ds) (bare kind sub) ≡ Grammar.to (in_body Body.Message Item.BitNames ds)
+bit-step : (ds : List Due) (kind sub : ℕ) → is_bit_name kind ≡ true → step (in_body Body.Message Item.BitNames ds) (bare kind sub) ≡ Grammar.to (in_body Body.Message Item.BitNames ds)
 unfolding step field_list_step field_step type_step
-bit-step [] kind sub h = rw h
-bit-step (d ∷ ds) kind sub h = rw h
+bit-step [] kind sub h = rw (eqb-true kind 22 h)
+bit-step (d ∷ ds) kind sub h = rw (eqb-true kind 22 h)
 
 abbrev in_field : Grammar.Step (List Due) → Grammar.Step Grammar.State
 in_field x = lifted Grammar.message (lifted Grammar.field (lifted Grammar.typed (lifted (type_with false) x)))
 
-module _ (depth : ℕ) (ds : List Due) (kind sub : ℕ) (d : depth ≤ 64) (h : InRun Nests kind) where
+module _ (depth : ℕ) (ds : List Due) (kind sub : ℕ) (d : depth ≤ 64) (h : is_nest kind ≡ true) where
   nest-part : part_step (due_at depth type ∷ ds) (bare kind sub) ≡ Grammar.to (due_at (suc depth) type ∷ ds)
   unfolding part_step Kind.parts_of
   nest-part =
@@ -131,7 +136,8 @@ module _ (second : ℕ → Bool) (sheet names : List ℕ) where
       (steps n (omega arith))
       )
 
-module _ (run_of : Run) (sheet names : List ℕ) (i r n : ℕ) (first : i ≤ r) (last : r ≤ n) (all : n ≡ length sheet / 32) (plain : (j : ℕ) → i ≤ j → j < r → Plain run_of sheet names j) where
+module _ (is_in : ℕ → Bool) (quiet : (kind : ℕ) → is_in kind ≡ true → Quiet kind) (sheet names : List ℕ) (i r n : ℕ) (first : i ≤ r) (last : r ≤ n) (all : n ≡ length sheet / 32)
+    (plain : (j : ℕ) → i ≤ j → j < r → Plain is_in sheet names j) where
   -- no record of a run is a newtype
   run-ended : (end : ℕ) → Ended sheet end i → Ended sheet end r
   unfolding view_at
@@ -139,29 +145,29 @@ module _ (run_of : Run) (sheet names : List ℕ) (i r n : ℕ) (first : i ≤ r)
     where
       by : (j : ℕ) → end ≤ j → j < r → Dec (j < i) → is_of Kind.Declaration Sub.Newtype (view_at sheet j) ≡ false
       by j a b (yes l) = h.none j a l
-      by j a b (no l) = rw (quiet-kind run_of (kind_in (record_bytes sheet j)) (plain j (omega arith) b).kind).other refl
+      by j a b (no l) = rw (quiet (kind_in (record_bytes sheet j)) (plain j (omega arith) b).kind).other refl
 
   -- the states after its records are those told by their kinds
   run-same :
-      (g : ℕ → Grammar.State) → ((k kind sub : ℕ) → k < r - i → InRun run_of kind → step (g k) (bare kind sub) ≡ Grammar.to (g (suc k))) → (second : ℕ → Bool) →
+      (g : ℕ → Grammar.State) → ((k kind sub : ℕ) → k < r - i → is_in kind ≡ true → step (g k) (bare kind sub) ≡ Grammar.to (g (suc k))) → (second : ℕ → Bool) →
       first_fault_by second (g (r - i)) r (drop r (records sheet names)) ≡ first_fault_by second (g 0) i (drop i (records sheet names))
   run-same g steps second =
       let end : i + (r - i) ≡ r = omega arith in
       rw end at (run second sheet names g i (r - i) (omega arith) (λ k l. one k l (plain (i + k) (omega arith) (omega arith))))
     where
-      one : (k : ℕ) → k < r - i → Plain run_of sheet names (i + k) → Grammar.to (g (suc k)) ≡ record_step_by (second (i + k)) (g k) (decode names (record_bytes sheet (i + k)))
+      one : (k : ℕ) → k < r - i → Plain is_in sheet names (i + k) → Grammar.to (g (suc k)) ≡ record_step_by (second (i + k)) (g k) (decode names (record_bytes sheet (i + k)))
       one k l p =
-          quiet_step names (record_bytes sheet (i + k)) (kind_in (record_bytes sheet (i + k))) (quiet-kind run_of _ p.kind) refl (second (i + k)) (g k) (g (suc k)) p.clean
+          quiet_step names (record_bytes sheet (i + k)) (kind_in (record_bytes sheet (i + k))) (quiet _ p.kind) refl (second (i + k)) (g k) (g (suc k)) p.clean
           p.fits (steps k (kind_in (record_bytes sheet (i + k))) (sub_in (record_bytes sheet (i + k))) l p.kind)
 
   ran-stays :
-      (s : State) (ds : List Due) → ((kind sub : ℕ) → InRun run_of kind → step (state_of s ds) (bare kind sub) ≡ Grammar.to (state_of s ds)) →
+      (s : State) (ds : List Due) → ((kind sub : ℕ) → is_in kind ≡ true → step (state_of s ds) (bare kind sub) ≡ Grammar.to (state_of s ds)) →
       Ran sheet names s ds ds i r
   ran-stays s ds steps =
       record { least = first; most = omega arith; same = run-same (λ k. state_of s ds) (λ k kind sub l h. steps kind sub h); ended = run-ended }
 
 -- types of one part have the part that is due one deeper each
-module _ (sheet names : List ℕ) (i r n : ℕ) (first : i ≤ r) (last : r ≤ n) (all : n ≡ length sheet / 32) (plain : (j : ℕ) → i ≤ j → j < r → Plain Nests sheet names j) where
+module _ (sheet names : List ℕ) (i r n : ℕ) (first : i ≤ r) (last : r ≤ n) (all : n ≡ length sheet / 32) (plain : (j : ℕ) → i ≤ j → j < r → Plain is_nest sheet names j) where
   ran-deeper : (depth : ℕ) (ds : List Due) → r ≤ i + (65 - depth) →
       Ran sheet names (at Body.Message Item.Typed) (due_at depth type ∷ ds) (due_at (depth + (r - i)) type ∷ ds) i r
   unfolding state_of
@@ -169,8 +175,8 @@ module _ (sheet names : List ℕ) (i r n : ℕ) (first : i ≤ r) (last : r ≤ 
       record {
         least = first;
         most = omega arith;
-        same = λ second. rw none_more at (run-same Nests sheet names i r n first last all plain deeper steps second);
-        ended = run-ended Nests sheet names i r n first last all plain;
+        same = λ second. rw none_more at (run-same is_nest quiet-nest sheet names i r n first last all plain deeper steps second);
+        ended = run-ended is_nest quiet-nest sheet names i r n first last all plain;
       }
     where
       deeper : ℕ → Grammar.State
@@ -179,7 +185,7 @@ module _ (sheet names : List ℕ) (i r n : ℕ) (first : i ≤ r) (last : r ≤ 
       none_more : depth + 0 ≡ depth
       none_more = omega arith
 
-      steps : (k kind sub : ℕ) → k < r - i → InRun Nests kind → step (deeper k) (bare kind sub) ≡ Grammar.to (deeper (suc k))
+      steps : (k kind sub : ℕ) → k < r - i → is_nest kind ≡ true → step (deeper k) (bare kind sub) ≡ Grammar.to (deeper (suc k))
       steps k kind sub l h =
           let next : depth + suc k ≡ suc (depth + k) = omega arith in
           rw next (nest_step (depth + k) ds kind sub (omega arith) h)
@@ -207,19 +213,19 @@ ran_at sheet names before after i r s body e h = subst (λ (b : Body). Ran sheet
 -- a bit name where one may come
 pub ran_bits :
     (sheet names : List ℕ) (ds : List Due) (item : Item) (i r n : ℕ) → n ≡ length sheet / 32 → item ≡ Item.BitNames →
-    (i ≤ r) × (r ≤ n) × ((j : ℕ) → i ≤ j → j < r → Plain BitNames sheet names j) → Ran sheet names (at Body.Message item) ds ds i r
+    i ≤ r → r ≤ n → ((j : ℕ) → i ≤ j → j < r → Plain is_bit_name sheet names j) → Ran sheet names (at Body.Message item) ds ds i r
 unfolding state_of
-ran_bits sheet names ds item i r n all e passed =
-    rw e (ran-stays BitNames sheet names i r n passed.0 passed.1 all passed.2 (at Body.Message Item.BitNames) ds (bit-step ds))
+ran_bits sheet names ds item i r n all e first last plain =
+    rw e (ran-stays is_bit_name quiet-bit-name sheet names i r n first last all plain (at Body.Message Item.BitNames) ds (bit-step ds))
 
 -- an imported name where one may come
 pub ran_imports :
     (sheet names : List ℕ) (ds : List Due) (item : Item) (i r n : ℕ) → n ≡ length sheet / 32 → none_due ds ≡ true → item ≡ Item.Between →
-    (i ≤ r) × (r ≤ n) × ((j : ℕ) → i ≤ j → j < r → Plain Imports sheet names j) → Ran sheet names (at Body.Context item) ds ds i r
+    i ≤ r → r ≤ n → ((j : ℕ) → i ≤ j → j < r → Plain is_import sheet names j) → Ran sheet names (at Body.Context item) ds ds i r
 unfolding state_of
-ran_imports sheet names [] item i r n all empty e passed =
-    rw e (ran-stays Imports sheet names i r n passed.0 passed.1 all passed.2 (at Body.Context Item.Between) [] import-step)
-ran_imports sheet names (d ∷ ds) item i r n all empty e passed = absurd (false≢true empty)
+ran_imports sheet names [] item i r n all empty e first last plain =
+    rw e (ran-stays is_import quiet-import sheet names i r n first last all plain (at Body.Context Item.Between) [] import-step)
+ran_imports sheet names (d ∷ ds) item i r n all empty e first last plain = absurd (false≢true empty)
 
 -- what the tests of a record say
 both : (a b : Bool) → (a && b) ≡ true → (a ≡ true) × (b ≡ true)
@@ -230,41 +236,31 @@ module _ (sheet names : List ℕ) (i kind third : ℕ) (k : kind ≡ get_or (rec
   is-clean : eqb third 0 ≡ true → clean_in (record_bytes sheet i) ≡ true
   is-clean h = rw t at h
 
-  plain_named :
-      (run : Run) (wanted end : ℕ) → ((n : ℕ) → n ≡ wanted → InRun run n) → end ≡ name_offset (record_bytes sheet i) + name_length (record_bytes sheet i) →
-      (eqb third 0 && eqb kind wanted && leb end (length names)) ≡ true → Plain run sheet names i
-  plain_named run wanted end of-run he h =
+  pub plain_named :
+      (wanted end : ℕ) → end ≡ name_offset (record_bytes sheet i) + name_length (record_bytes sheet i) →
+      (eqb third 0 && eqb kind wanted && leb end (length names)) ≡ true → Plain (λ n. eqb n wanted) sheet names i
+  plain_named wanted end he h =
       let front : ((eqb third 0 && eqb kind wanted) ≡ true) × (leb end (length names) ≡ true) = both (eqb third 0 && eqb kind wanted) (leb end (length names)) h in
       let first : (eqb third 0 ≡ true) × (eqb kind wanted ≡ true) = both (eqb third 0) (eqb kind wanted) front.0 in
       record {
-        kind = of-run (kind_in (record_bytes sheet i)) (sym k ∙ eqb-true kind wanted first.1);
+        kind = rw k at first.1;
         clean = is-clean first.0;
         fits = not-false (fits_in names (record_bytes sheet i)) (sym (name_fits names (record_bytes sheet i) end he (leb-true end (length names) front.1)));
       }
 
-  module _ (run : Run) (end : ℕ) (he : end ≡ name_offset (record_bytes sheet i) + name_length (record_bytes sheet i)) where
-    pub plain_import : run ≡ Imports → (eqb third 0 && eqb kind 2 && leb end (length names)) ≡ true → Plain run sheet names i
-    plain_import e h = rw e (plain_named Imports 2 end (λ n q. q) he h)
-
-    pub plain_bit_name : run ≡ BitNames → (eqb third 0 && eqb kind 22 && leb end (length names)) ≡ true → Plain run sheet names i
-    plain_bit_name e h = rw e (plain_named BitNames 22 end (λ n q. q) he h)
-
-  pub plain_nest : (eqb third 0 && (leb Kind.Optional kind && leb kind Kind.Set)) ≡ true → Plain Nests sheet names i
-  unfolding fits_in any_of
-  plain_nest h =
-      let first : (eqb third 0 ≡ true) × ((leb Kind.Optional kind && leb kind Kind.Set) ≡ true) = both (eqb third 0) (leb Kind.Optional kind && leb kind Kind.Set) h in
-      let nest : within Kind.Optional Kind.Set (kind_in (record_bytes sheet i)) ≡ true = rw k at first.1 in
-      record { kind = nest; clean = is-clean first.0; fits = rw (unnamed nest) }
-    where
-      unnamed : within Kind.Optional Kind.Set (kind_in (record_bytes sheet i)) ≡ true → is_named_in (record_bytes sheet i) ≡ false
-      unnamed h = nest-cases (λ (n : ℕ). Kind.has_name n (sub_in (record_bytes sheet i)) ≡ false) (kind_in (record_bytes sheet i)) h refl refl refl refl
-
--- one record more
-pub plain_next :
-    (run : Run) (sheet names : List ℕ) (i j : ℕ) → ((k : ℕ) → i ≤ k → k < j → Plain run sheet names k) → Plain run sheet names j →
-    (k : ℕ) → i ≤ k → k < j + 1 → Plain run sheet names k
-plain_next run sheet names i j before here k l m = by (dec_lt k j)
+pub plain_nest : (sheet names : List ℕ) (i : ℕ) → (clean_in (record_bytes sheet i) && is_nest (kind_in (record_bytes sheet i))) ≡ true → Plain is_nest sheet names i
+unfolding fits_in any_of
+plain_nest sheet names i h =
+    let first = both (clean_in (record_bytes sheet i)) (is_nest (kind_in (record_bytes sheet i))) h in
+    record { kind = first.1; clean = first.0; fits = rw (unnamed first.1) }
   where
-    by : Dec (k < j) → Plain run sheet names k
-    by (yes h) = before k l h
-    by (no h) = let same : j ≡ k = omega arith in rw same at here
+    unnamed : is_nest (kind_in (record_bytes sheet i)) ≡ true → is_named_in (record_bytes sheet i) ≡ false
+    unnamed n = nest-cases (λ (n : ℕ). Kind.has_name n (sub_in (record_bytes sheet i)) ≡ false) (kind_in (record_bytes sheet i)) n refl refl refl refl
+
+-- where a search ends
+pub found_end :
+    (i n end : ℕ) (No : ℕ → Type 0) (found : std.Option ℕ) → end ≡ unwrap_or found n →
+    MatchOption found ((k : ℕ) → i ≤ k → k < n → No k) (λ e. (i ≤ e) × (e < n) × ⊤ × ((k : ℕ) → i ≤ k → k < e → No k)) →
+    (k : ℕ) → i ≤ k → k < end → No k
+found_end i n end No std.None h all k a b = all k a (rw h at b)
+found_end i n end No (std.Some e) h at k a b = at.3 k a (rw h at b)

@@ -1,10 +1,8 @@
 -- Runs of records that are passed without a step each.
-use Rattle.std.specs.Prelude.{ℕ, ◌/◌, ◌≤◌, ◌≡◌, Bool, true, List, length, drop}
+use Rattle.std.specs.Prelude.{ℕ, ◌/◌, ◌≤◌, ◌≡◌, Bool, true, List, length, drop, eqb}
 use Rattle.rules.specs.Words.{within}
 use Rattle.rules.specs.Kind
 use Rattle.rules.specs.Record.{record_size, record_bytes, kind_in, clean_in, fits_in, records}
-use Rattle.refusals.specs.declared.runs.Run.{Run}
-use Rattle.refusals.specs.declared.runs.Run.TheVariants.{Imports, BitNames, Nests}
 use Rattle.refusals.specs.declared.state.Body.{Body}
 use Rattle.refusals.specs.declared.state.Item.{Item}
 use Rattle.refusals.specs.declared.state.State.{State}
@@ -12,15 +10,19 @@ use Rattle.rules.specs.Grammar.{Due}
 use Rattle.refusals.specs.States.{state_of}
 use Rattle.refusals.specs.Pass.{first_fault_by, Ended}
 
--- the kind is one of the run
-abbrev pub InRun : Run → ℕ → Type 0
-InRun Imports kind = kind ≡ Kind.ImportedName
-InRun BitNames kind = kind ≡ Kind.BitName
-InRun Nests kind = within Kind.Optional Kind.Set kind ≡ true
+-- the kinds of a run: imported names; bit names; optionals, arrays, fixed arrays and sets
+abbrev pub is_import : ℕ → Bool
+is_import kind = eqb kind Kind.ImportedName
 
--- record i is one of the run, its byte 3 is 0, and its name, if it has one, fits
-pub record Plain (run : Run) (sheet names : List ℕ) (i : ℕ) : Type 0 where
-  pub kind : InRun run (kind_in (record_bytes sheet i))
+abbrev pub is_bit_name : ℕ → Bool
+is_bit_name kind = eqb kind Kind.BitName
+
+abbrev pub is_nest : ℕ → Bool
+is_nest = within Kind.Optional Kind.Set
+
+-- record i's kind is one of the run, its byte 3 is 0, and its name, if it has one, fits
+pub record Plain (is_in : ℕ → Bool) (sheet names : List ℕ) (i : ℕ) : Type 0 where
+  pub kind : is_in (kind_in (record_bytes sheet i)) ≡ true
   pub clean : clean_in (record_bytes sheet i) ≡ true
   pub fits : fits_in names (record_bytes sheet i) ≡ true
 

@@ -1,51 +1,50 @@
 // Runs of records that are passed without a step each: imported names and bit names, which leave the state as it is, and types of one part, each of
 // which has the part that is due one deeper.
-ghost use Rattle.std.specs.Prelude.{◌≡◌, true, ℕ, ◌/◌, ◌<◌, ◌≤◌, length};
+ghost use Rattle.std.specs.Prelude.{◌≡◌, ◌&&◌, true, ℕ, ◌/◌, ◌<◌, ◌≤◌, length, eqb};
+ghost use Rattle.rules.specs.Record.{record_bytes, kind_in, clean_in};
 ghost use Rattle.refusals.specs.declared.state.Body.TheVariants.{Context, Message};
 ghost use Rattle.refusals.specs.declared.state.Item.TheVariants.{Typed};
-ghost use Rattle.refusals.specs.Runs.{Plain, Ran, at};
+ghost use Rattle.refusals.specs.Runs.{is_nest, Plain, Ran, at};
 
 use crate::bytes::{byte, name_end};
 use crate::due::Due;
 use crate::state::{Body, Item, State};
 use sheet::kinds;
 
-// Imported names; bit names; optionals, arrays, fixed arrays and sets. A contract can name a run, and could not name what a closure tests.
-#[derive(Clone, Copy)]
-pub enum Run {
-    Imports,
-    BitNames,
-    Nests,
+// Whether record `i` is of the kind, one that has a name, and rows 3 to 5 let it pass.
+#[tactic(auto, using(crate::proofs::PlainRuns::plain_named))]
+fn is_plain_name(sheet: &[u8], names: &[u8], kind: u8, i: usize) -> bool
+    requires { i < length sheet.now / 32 }
+    ensures { result ≡ true → Plain (λ k. eqb k kind) sheet.now names.now i }
+{
+    let clean = byte(sheet, i, 3) == 0;
+    clean & (byte(sheet, i, 0) == kind) & (name_end(sheet, i) <= names.len())
 }
 
-// Whether record `i` is one of the run, and rows 3 to 5 let it pass.
-#[tactic(auto, using(crate::proofs::PlainRuns::plain_nest))]
-fn is_plain(sheet: &[u8], names: &[u8], run: Run, i: usize) -> bool
+// Whether record `i` is a type of one part, which is a type, and rows 3 to 5 let it pass: none of these has a name.
+fn is_plain_nest(sheet: &[u8], i: usize) -> bool
     requires { i < length sheet.now / 32 }
-    ensures { result ≡ true → Plain run sheet.now names.now i }
+    ensures { result ≡ (clean_in (record_bytes sheet.now i) && is_nest (kind_in (record_bytes sheet.now i))) }
 {
     let kind = byte(sheet, i, 0);
     let clean = byte(sheet, i, 3) == 0;
-    match run {
-        Run::Imports => {
-            clean & (kind == kinds::IMPORTED_NAME) & (name_end(sheet, i) <= names.len())
-        }
-        Run::BitNames => clean & (kind == kinds::BIT_NAME) & (name_end(sheet, i) <= names.len()),
-        Run::Nests => clean & ((kinds::OPTIONAL <= kind) & (kind <= kinds::SET)),
-    }
+    clean & ((kinds::OPTIONAL <= kind) & (kind <= kinds::SET))
 }
 
-// The first record from `i` up to `n` that is none of the run, or that rows 3 to 5 turn down.
-fn plain_end(sheet: &[u8], names: &[u8], run: Run, i: usize, n: usize) -> usize
-    requires { (i ≤ n) × (n ≤ length sheet.now / 32) }
-    ensures { (i ≤ result) × (result ≤ n) × ((j : ℕ) → i ≤ j → j < result → Plain run sheet.now names.now j) }
+// The first record from `i` up to `n` that is not plain.
+fn plain_end<F: Fn(usize) -> bool>(i: usize, n: usize, is_plain: F) -> usize
+    requires ordered { i ≤ n }
+    requires callable { (j : ℕ) → i ≤ j → j < n → F.pre is_plain j }
+    ensures inside { (i ≤ result) × (result ≤ n) }
+    ensures plain { (j : ℕ) → i ≤ j → j < result → F.post is_plain j true }
 {
-    for j in i..n {
-        if !is_plain(sheet, names, run, j) {
-            return j;
-        }
-    }
-    n
+    (i..n)
+        .find(
+            |j|
+                requires { F.pre is_plain j.now }
+            { !is_plain(*j) },
+        )
+        .unwrap_or(n)
 }
 
 // Passes the types of one part from record `i` on in the type of a message's field, as far as none is too deep.
@@ -59,7 +58,7 @@ fn nests_end(sheet: &[u8], names: &[u8], due: &mut Due, i: usize) -> usize
         return i;
     }
     let limit = sheet::records(sheet).min(i + usize::from(room));
-    let end = plain_end(sheet, names, Run::Nests, i, limit);
+    let end = plain_end(i, limit, |j| is_plain_nest(sheet, j));
     due.deepen((end - i) as u8);
     end
 }
@@ -72,7 +71,9 @@ fn message_end(sheet: &[u8], names: &[u8], due: &mut Due, item: Item, i: usize) 
 {
     match item {
         Item::Typed => nests_end(sheet, names, due, i),
-        Item::BitNames => plain_end(sheet, names, Run::BitNames, i, sheet::records(sheet)),
+        Item::BitNames => plain_end(i, sheet::records(sheet), |j| {
+            is_plain_name(sheet, names, kinds::BIT_NAME, j)
+        }),
         _ => i,
     }
 }
@@ -84,13 +85,9 @@ fn context_end(sheet: &[u8], names: &[u8], due: &Due, item: Item, i: usize) -> u
     ensures { Ran sheet.now names.now (at Context item) due.now due.now i result }
 {
     match item {
-        Item::Between if due.is_empty() => plain_end(
-            sheet,
-            names,
-            Run::Imports,
-            i,
-            sheet::records(sheet),
-        ),
+        Item::Between if due.is_empty() => plain_end(i, sheet::records(sheet), |j| {
+            is_plain_name(sheet, names, kinds::IMPORTED_NAME, j)
+        }),
         _ => i,
     }
 }
