@@ -106,9 +106,9 @@ parts-sound es top depth n p s hd le hn =
     bounded j h (yes l) = rw (below j l) (s.bounded j (omega arith))
     bounded j h (no l) = rw (at_top j l h) (omega arith)
 
-some-first : (es : List Entry) (h kind : ℕ) → is_first (dues es h) kind → 1 ≤ h
+some-first : (es : List Entry) (h kind : ℕ) → is_first (dues es h) kind ≡ true → 1 ≤ h
 unfolding dues
-some-first es zero kind f = absurd f
+some-first es zero kind f = absurd (false≢true f)
 some-first es (suc h) kind f = omega arith
 
 -- the record is the first part that is due
@@ -123,7 +123,7 @@ module _ (es : List Entry) (h kind : ℕ) (p : Part) (ds : List Due) (view : due
   as-top = sym view ∙ dues-top es h (λ z. omega (arith, taken-some))
 
   fits : Kind.is_part (part_in top.part) kind ≡ true
-  fits = subst (λ x. is_first x kind) as-top t.first
+  fits = subst (λ x. is_first x kind ≡ true) as-top t.first
 
   pub taken-deep : 64 < top.depth → Grammar.fault 7 ≡ part_step ds (bare kind 0)
   unfolding part_step
@@ -150,9 +150,8 @@ module _ (es : List Entry) (h : ℕ) (ds : List Due) (view : dues es h ≡ ds) (
   unfolding dues
   no-parts = rw z at (sym view)
 
-  pub step-none : (kind : ℕ) → Grammar.fault 6 ≡ part_step ds (bare kind 0)
-  unfolding part_step
-  step-none kind = rw no-parts
+  pub first_none : (kind : ℕ) → false ≡ is_first ds kind
+  first_none kind = rw no-parts
 
   pub room-none : 0 ≡ room ds
   room-none = rw no-parts
@@ -165,14 +164,8 @@ module _ (es : List Entry) (h : ℕ) (ds : List Due) (view : dues es h ≡ ds) (
   as-first : ds ≡ due_of first ∷ dues es (h - 1)
   as-first = sym view ∙ dues-top es h n
 
-  module _ (kind : ℕ) (r : Bool) (e : r ≡ Kind.is_part (part_in first.part) kind) where
-    -- row 6: no such part
-    pub step-other : r ≡ false → Grammar.fault 6 ≡ part_step ds (bare kind 0)
-    unfolding part_step
-    step-other f = rw (as-first, ← e, f, part_step)
-
-    pub first-taken : (p : Part) → r ≡ true → p ≡ part_of kind → Taken ds kind p
-    first-taken p t hp = record { first = rw as-first (sym e ∙ t); parts = hp }
+  pub first_some : (kind : ℕ) (r : Bool) → r ≡ Kind.is_part (part_in first.part) kind → r ≡ is_first ds kind
+  first_some kind r e = rw as-first e
 
   pub room-type : first.part ≡ TypeExpr → 65 - first.depth ≡ room ds
   room-type t = rw (as-first, t)
@@ -184,6 +177,12 @@ module _ (es : List Entry) (h : ℕ) (ds : List Due) (view : dues es h ≡ ds) (
       go TypeExpr e = absurd (t (sym e))
       go Condition e = rw (← e) refl
       go Operand e = rw (← e) refl
+
+-- row 6: no such part
+pub step_other : (ds : List Due) (kind : ℕ) → is_first ds kind ≡ false → Grammar.fault 6 ≡ part_step ds (bare kind 0)
+unfolding part_step
+step_other [] kind f = refl
+step_other (d ∷ ds) kind f = rw (f, part_step)
 
 -- some types of one part have come
 room-first : (e : Entry) (ds : List Due) → room (due_of e ∷ ds) ≤ 65 - e.depth

@@ -4,6 +4,7 @@ use Rattle.std.proofs.Math.Option.{Option, some, none}
 use Rattle.rules.specs.Kind
 use Rattle.rules.specs.Answer.{number_of}
 use Rattle.rules.specs.declared.answer.Refusal.{Refusal}
+use Rattle.rules.specs.declared.answer.Refusal.TheVariants.{OutOfOrder}
 
 -- what byte 1 is to be less than: how many subs the kind has; 256 for a kind without a sub, 0 where there is no such kind
 abbrev pub limited : Bool → ℕ → ℕ
@@ -11,6 +12,11 @@ limited known subs = elim known [ true ↦ elim (eqb subs 0) [ true ↦ 256 | fa
 
 abbrev pub sub_limit : ℕ → ℕ
 sub_limit kind = limited (Kind.known kind) (Kind.sub_count kind)
+
+-- row 6
+abbrev pub in_order : Bool → Result (Unit {0}) Refusal
+in_order true = Ok tt
+in_order false = Err OutOfOrder
 
 -- the number of the row, if there is one
 abbrev pub own_of : Result (Unit {0}) Refusal → Option ℕ

@@ -1,5 +1,5 @@
 -- Steps among the parts that are due.
-use Rattle.std.specs.Prelude.{ℕ, ◌+◌, ◌-◌, ◌≡◌, true, List, [], ◌∷◌, Result, Ok, Err}
+use Rattle.std.specs.Prelude.{ℕ, ◌+◌, ◌-◌, ◌≡◌, Bool, true, false, List, [], ◌∷◌, Result, Ok, Err}
 use Rattle.rules.specs.Kind
 use Rattle.rules.specs.Kind.{type, condition, operand}
 use Rattle.rules.specs.Record.{Rec}
@@ -14,13 +14,14 @@ use Rattle.refusals.specs.Parts.{part_of}
 abbrev pub bare : ℕ → ℕ → Rec ℕ ℕ
 bare kind sub = record { kind = kind; sub = sub; clean = true; fits = true; name = 0; place = 0; ordinal_place = 0; value = 0 }
 
--- a record of the kind is the first part that is due, and its own parts are of that part
-abbrev pub is_first : List Due → ℕ → Type 0
-is_first [] kind = ⊥
-is_first (d ∷ ds) kind = Kind.is_part d.part kind ≡ true
+-- a record of the kind may be the first part that is due
+abbrev pub is_first : List Due → ℕ → Bool
+is_first [] kind = false
+is_first (d ∷ ds) kind = Kind.is_part d.part kind
 
+-- it is, and its own parts are of the part
 pub record Taken (ds : List Due) (kind : ℕ) (part : Part) : Type 0 where
-  pub first : is_first ds kind
+  pub first : is_first ds kind ≡ true
   pub parts : part ≡ part_of kind
 
 -- how many types of one part may come, each in the one before

@@ -3,8 +3,9 @@ ghost use Rattle.std.specs.Prelude.{◌≡◌, [], ◌∷◌, false, ◌≤◌};
 ghost use Rattle.rules.specs.Kind;
 ghost use Rattle.rules.specs.Grammar.{due_at, none_due, part_step};
 ghost use Rattle.refusals.specs.Parts.{part_in, part_of};
-ghost use Rattle.refusals.specs.Due.{bare, Taken, part_step_of, room, deepened};
+ghost use Rattle.refusals.specs.Due.{bare, is_first, Taken, part_step_of, room, deepened};
 
+use crate::order::in_order;
 use rules::{Refusal, Sheet};
 use sheet::kinds;
 use std::marker::Model;
@@ -127,20 +128,24 @@ impl Due {
         Ok(())
     }
 
+    // Whether a record of the kind may be the first part that is due.
+    #[tactic(auto, using(crate::proofs::PartSteps::first_none, crate::proofs::PartSteps::first_some))]
+    fn is_first(&self, kind: u8) -> bool
+        ensures { result ≡ is_first self.now kind }
+    {
+        self.height != 0 && self.entries[self.height - 1].part.holds(kind)
+    }
+
     // The first part that is due: the record, if it is such a part.
+    #[tactic(auto, using(crate::proofs::PartSteps::step_other))]
     pub fn part_step(&mut self, kind: u8) -> Result<(), Refusal>
         ensures { part_step_of result self.new ≡ part_step self.old (bare kind 0) }
     {
-        if self.height == 0 {
-            return Err(Refusal::OutOfOrder); // row 6
-        }
-        if !self.entries[self.height - 1].part.holds(kind) {
-            return Err(Refusal::OutOfOrder); // row 6
-        }
+        in_order(self.is_first(kind))?;
         self.take(kind, Part::of(kind))
     }
 
-    // How many types of one part may come, each in the one before; none where no type is due.
+    // How many types of one part may come, each in the one before. None is a true count: no type is due, or the one that is due is too deep.
     pub fn room(&self) -> u8
         ensures { result ≡ room self.now }
     {

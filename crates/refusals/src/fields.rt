@@ -6,6 +6,7 @@ ghost use Rattle.refusals.specs.Due.{bare};
 ghost use Rattle.refusals.specs.States.{field_list_of, begun_by, condition_due, type_with, type_item, item_step_of};
 
 use crate::due::{Due, Part};
+use crate::order::in_order;
 use crate::state::Item;
 use rules::Refusal;
 use sheet::kinds;
@@ -139,10 +140,8 @@ pub fn field_list_step(due: &mut Due, item: Item, kind: u8) -> Result<Item, Refu
     ensures { item_step_of result due.new ≡ field_list_step (field_list_of item due.old) (bare kind 0) }
 {
     if sheet::is_field_item(kind) {
-        if is_done(due, item) {
-            return Ok(begun(kind));
-        }
-        return Err(Refusal::OutOfOrder); // row 6
+        in_order(is_done(due, item))?;
+        return Ok(begun(kind));
     }
     within_item(due, item, kind)
 }

@@ -6,6 +6,7 @@ mod chain;
 mod due;
 mod fields;
 mod machine;
+mod order;
 mod own;
 mod pass;
 mod rows;

@@ -9,6 +9,7 @@ ghost use Rattle.refusals.specs.States.{is_bits, type_with, type_in, in_fields, 
 
 use crate::due::{Due, Part};
 use crate::fields::{after_type, field_list_step, is_done};
+use crate::order::in_order;
 use crate::state::{Body, Item, State};
 use rules::Refusal;
 use sheet::{kinds, subs};
@@ -22,16 +23,6 @@ fn in_fields(body: Body, kind: u8) -> bool
         Body::Variant => !sheet::is_variant_item(kind),
         _ => false,
     }
-}
-
-// An item of an enum past its backing, or of flags: the state stays as it is.
-fn item_step(kind: u8) -> Result<(), Refusal>
-    ensures { (s : State) (ds : List Grammar.Due) → step_of result s ds ≡ Grammar.guarded (within 14 15 kind) (Grammar.to (state_of s ds)) }
-{
-    if sheet::is_variant_item(kind) {
-        return Ok(());
-    }
-    Err(Refusal::OutOfOrder) // row 6
 }
 
 impl State {
@@ -122,18 +113,14 @@ impl State {
         ensures { step_of result self.new due.new ≡ Grammar.context_step (type_with (is_bits self.old.item) due.old) (bare kind sub) }
     {
         if (kinds::DECLARATION <= kind) & (kind <= kinds::WILDCARD) {
-            if due.is_empty() {
-                self.context_item(due, kind, sub);
-                return Ok(());
-            }
-            return Err(Refusal::OutOfOrder); // row 6
+            in_order(due.is_empty())?;
+            self.context_item(due, kind, sub);
+            return Ok(());
         }
         if kind == kinds::HEAD {
-            if due.is_empty() {
-                self.open(due, sub);
-                return Ok(());
-            }
-            return Err(Refusal::OutOfOrder); // row 6
+            in_order(due.is_empty())?;
+            self.open(due, sub);
+            return Ok(());
         }
         self.inner_step(due, kind)
     }
@@ -143,11 +130,9 @@ impl State {
     fn unbacked_step(&mut self, kind: u8) -> Result<(), Refusal>
         ensures { (ds : List Grammar.Due) → step_of result self.new ds ≡ Grammar.lifted Grammar.enum (Grammar.enum_step Grammar.unbacked (bare kind 0)) }
     {
-        if sheet::is_variant_item(kind) | (kind == kinds::BACKING) {
-            self.enter(Body::Backed);
-            return Ok(());
-        }
-        Err(Refusal::OutOfOrder) // row 6
+        in_order(sheet::is_variant_item(kind) | (kind == kinds::BACKING))?;
+        self.enter(Body::Backed);
+        Ok(())
     }
 
     // The item of a union that a record of the kind begins.
@@ -166,11 +151,9 @@ impl State {
     fn outside_step(&mut self, kind: u8) -> Result<(), Refusal>
         ensures { (ds : List Grammar.Due) → step_of result self.new ds ≡ Grammar.lifted Grammar.union (Grammar.union_step Grammar.outside (bare kind 0)) }
     {
-        if sheet::is_variant_item(kind) {
-            self.union_item(kind);
-            return Ok(());
-        }
-        Err(Refusal::OutOfOrder) // row 6
+        in_order(sheet::is_variant_item(kind))?;
+        self.union_item(kind);
+        Ok(())
     }
 
     // A union in a variant: an item, where the variant's fields may end.
@@ -179,11 +162,9 @@ impl State {
         requires { within 14 15 kind ≡ true }
         ensures { (ds : List Grammar.Due) → step_of result self.new ds ≡ Grammar.lifted Grammar.union (Grammar.union_step (Grammar.variant (field_list_of self.old.item due.now)) (bare kind 0)) }
     {
-        if is_done(due, self.item) {
-            self.union_item(kind);
-            return Ok(());
-        }
-        Err(Refusal::OutOfOrder) // row 6
+        in_order(is_done(due, self.item))?;
+        self.union_item(kind);
+        Ok(())
     }
 
     // A step in no field list, and so not in a message.
@@ -194,9 +175,9 @@ impl State {
     {
         match self.body {
             Body::Context => self.context_step(due, kind, sub),
-            Body::Message => Err(Refusal::OutOfOrder),
+            Body::Message => Err(Refusal::OutOfOrder), // row 6
             Body::Unbacked => self.unbacked_step(kind),
-            Body::Backed | Body::Flags => item_step(kind),
+            Body::Backed | Body::Flags => in_order(sheet::is_variant_item(kind)),
             Body::Outside => self.outside_step(kind),
             Body::Variant => self.variant_item(due, kind),
             Body::Newtype => self.inner_step(due, kind),

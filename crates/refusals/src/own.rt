@@ -79,10 +79,7 @@ fn is_cut(sheet: &[u8], names: &[u8], i: usize) -> bool
     requires { i < length sheet.now / 32 }
     ensures { result ≡ not (fits_in names.now (record_bytes sheet.now i)) }
 {
-    if names.len() < name_end(sheet, i) {
-        return kinds::is_named(sheet::kind(sheet, i), byte(sheet, i, 1));
-    }
-    false
+    (names.len() < name_end(sheet, i)) && kinds::is_named(sheet::kind(sheet, i), byte(sheet, i, 1))
 }
 
 // Row 5: whether the ordinal is over 4294967295.
@@ -91,10 +88,7 @@ fn is_too_great(sheet: &[u8], i: usize) -> bool
     requires { i < length sheet.now / 32 }
     ensures { result ≡ is_too_great (decode [] (record_bytes sheet.now i)) }
 {
-    if Sheet::MAX_ORDINAL < value(sheet, i) {
-        return sheet::has_ordinal(sheet::kind(sheet, i));
-    }
-    false
+    (Sheet::MAX_ORDINAL < value(sheet, i)) && sheet::has_ordinal(sheet::kind(sheet, i))
 }
 
 // The fault of record `i` by rows 3 to 5, the lowest number first.
