@@ -6,6 +6,7 @@ use mathlib.Core.Bool.{Bool, true, false, ◌&&◌, false≢true}
 use mathlib.Core.List.{List, [], ◌∷◌}
 use mathlib.Core.Logic.{◌⊎◌, inl, inr}
 use lib.Dec.{leb, eqb}
+use Rattle.std.proofs.lemmas.Bool.{and_parts}
 use borrow.Author.Tests.{lt-leb, not-true, eqb-true}
 use Rattle.rules.specs.Words.{within}
 use Rattle.rules.specs.Kind
@@ -19,10 +20,6 @@ use Rattle.refusals.specs.Due.{bare}
 use Rattle.refusals.specs.States.{is_bits, type_item, type_in, type_with, in_body, in_fields, field_list_of, state_of, GoesOn}
 use Rattle.refusals.proofs.Items.{lifted_twice, type_part}
 use Rattle.refusals.proofs.KindOnly.{list_kind, union_kind}
-
-and-both : (a b : Bool) → (a && b) ≡ true → (a ≡ true) × (b ≡ true)
-and-both true b h = (refl, h)
-and-both false b h = absurd (false≢true h)
 
 bits-item : (b : Bool) → is_bits (type_item b) ≡ b
 bits-item true = refl
@@ -57,7 +54,7 @@ module _ (s : State) (ds : List Due) (kind : ℕ) (bits : Bool) (hb : bits ≡ i
   inner_bits t = go s.item (sym hb ∙ both.0) (eqb-true kind 22 both.1)
     where
       both : (bits ≡ true) × (eqb kind 22 ≡ true)
-      both = and-both bits (eqb kind 22) t
+      both = and_parts bits (eqb kind 22) t
 
       go : (i : Item) → is_bits i ≡ true → kind ≡ 22 → Grammar.to (in_body s.body i ds) ≡ lifted (type_in s.body) (type_step (type_with (is_bits i) ds) (bare kind 0))
       go Item.Between h e = absurd (false≢true h)

@@ -3,7 +3,7 @@ use Prim.Native.Nat.{ℕ, suc, ◌+◌, ◌/◌, ◌<◌, ◌≤◌}
 use native.Mathlib.Omega.{arith}
 use native.Mathlib.Decide.{dec_lt}
 use native.Mathlib.Numerals.{add-one}
-use mathlib.Core.Path.{◌≡◌, refl, sym, ap, ◌∙◌}
+use mathlib.Core.Path.{◌≡◌, refl, sym, ap, ◌∙◌, subst}
 use mathlib.Core.Bool.{Bool, true, false, not, ◌&&◌}
 use mathlib.Core.List.{List, []}
 use Rattle.std.specs.Prelude.{Result, Ok, Err}
@@ -17,10 +17,11 @@ use Rattle.rules.specs.Grammar.{Due}
 use Rattle.rules.specs.Refusals.{Fault, own_fault}
 use Rattle.rules.specs.Answer.{number_of}
 use Rattle.rules.specs.declared.answer.Refusal.{Refusal}
+use Rattle.rules.specs.declared.answer.Refused.{Refused}
 use Rattle.rules.proofs.Records.{records-drop, records-end}
 use Rattle.names.specs.View.{entry_of, declaration_part, view_at}
 use Rattle.refusals.specs.declared.state.State.{State}
-use Rattle.refusals.specs.Answers.{own_of}
+use Rattle.refusals.specs.Answers.{own_of, told_at}
 use Rattle.refusals.specs.Due.{bare}
 use Rattle.refusals.specs.States.{start_state, state_of}
 use Rattle.refusals.specs.Pass.{is_second, or_second, record_step_by, first_fault_by, Ended}
@@ -135,3 +136,15 @@ module _ (sheet : List ℕ) (end i : ℕ) (h : Ended sheet end i) where
 
   pub ends_all : (n : ℕ) → n ≡ length sheet / 32 → i ≤ n → n ≤ i → Ended sheet end (length sheet / 32)
   ends_all n hn a b = let same : i ≡ length sheet / 32 = omega arith in rw same at h
+
+-- a step, by what was told of it
+abbrev pub Told : ℕ → Result (Unit {0}) Refusal → Result (Unit {0}) Refused → Type 0
+Told i step (Ok passed) = step ≡ Ok tt
+Told i step (Err w) = (step ≡ Err w.refusal) × (w ≡ record { refusal = w.refusal; index = i })
+
+told-itself : (i : ℕ) (step : Result (Unit {0}) Refusal) → Told i step (told_at step i)
+told-itself i (Ok passed) = refl
+told-itself i (Err why) = (refl, refl)
+
+pub told : (i : ℕ) (step : Result (Unit {0}) Refusal) (m n : Result (Unit {0}) Refused) → m ≡ told_at step i → m ≡ n → Told i step n
+told i step m n h e = subst (Told i step) (sym h ∙ e) (told-itself i step)

@@ -12,6 +12,7 @@ use Rattle.std.specs.Prelude.{Ok, MatchOption, unwrap_or, ⊤}
 use Rattle.names.specs.View.{view_at}
 use lib.ListN.{length, get_or, drop}
 use lib.Dec.{eqb, leb}
+use Rattle.std.proofs.lemmas.Bool.{and_parts}
 use borrow.Author.Tests.{eqb-true, leb-true, le-ltb, not-false}
 use Rattle.rules.specs.Words.{within, look_up, any_of}
 use Rattle.rules.specs.Kind
@@ -228,10 +229,6 @@ ran_imports sheet names [] item i r n all empty e first last plain =
 ran_imports sheet names (d ∷ ds) item i r n all empty e first last plain = absurd (false≢true empty)
 
 -- what the tests of a record say
-both : (a b : Bool) → (a && b) ≡ true → (a ≡ true) × (b ≡ true)
-both true b h = (refl, h)
-both false b h = absurd (false≢true h)
-
 module _ (sheet names : List ℕ) (i kind third : ℕ) (k : kind ≡ get_or (record_bytes sheet i) 0 0) (t : third ≡ get_or (record_bytes sheet i) 3 0) where
   is-clean : eqb third 0 ≡ true → clean_in (record_bytes sheet i) ≡ true
   is-clean h = rw t at h
@@ -240,8 +237,8 @@ module _ (sheet names : List ℕ) (i kind third : ℕ) (k : kind ≡ get_or (rec
       (wanted end : ℕ) → end ≡ name_offset (record_bytes sheet i) + name_length (record_bytes sheet i) →
       (eqb third 0 && eqb kind wanted && leb end (length names)) ≡ true → Plain (λ n. eqb n wanted) sheet names i
   plain_named wanted end he h =
-      let front : ((eqb third 0 && eqb kind wanted) ≡ true) × (leb end (length names) ≡ true) = both (eqb third 0 && eqb kind wanted) (leb end (length names)) h in
-      let first : (eqb third 0 ≡ true) × (eqb kind wanted ≡ true) = both (eqb third 0) (eqb kind wanted) front.0 in
+      let front : ((eqb third 0 && eqb kind wanted) ≡ true) × (leb end (length names) ≡ true) = and_parts (eqb third 0 && eqb kind wanted) (leb end (length names)) h in
+      let first : (eqb third 0 ≡ true) × (eqb kind wanted ≡ true) = and_parts (eqb third 0) (eqb kind wanted) front.0 in
       record {
         kind = rw k at first.1;
         clean = is-clean first.0;
@@ -251,7 +248,7 @@ module _ (sheet names : List ℕ) (i kind third : ℕ) (k : kind ≡ get_or (rec
 pub plain_nest : (sheet names : List ℕ) (i : ℕ) → (clean_in (record_bytes sheet i) && is_nest (kind_in (record_bytes sheet i))) ≡ true → Plain is_nest sheet names i
 unfolding fits_in any_of
 plain_nest sheet names i h =
-    let first = both (clean_in (record_bytes sheet i)) (is_nest (kind_in (record_bytes sheet i))) h in
+    let first = and_parts (clean_in (record_bytes sheet i)) (is_nest (kind_in (record_bytes sheet i))) h in
     record { kind = first.1; clean = first.0; fits = rw (unnamed first.1) }
   where
     unnamed : is_nest (kind_in (record_bytes sheet i)) ≡ true → is_named_in (record_bytes sheet i) ≡ false

@@ -4,6 +4,7 @@ use Rattle.std.proofs.Math.Option.{Option, some, none}
 use Rattle.rules.specs.Kind
 use Rattle.rules.specs.Answer.{number_of}
 use Rattle.rules.specs.declared.answer.Refusal.{Refusal}
+use Rattle.rules.specs.declared.answer.Refused.{Refused}
 use Rattle.rules.specs.declared.answer.Refusal.TheVariants.{OutOfOrder}
 
 -- what byte 1 is to be less than: how many subs the kind has; 256 for a kind without a sub, 0 where there is no such kind
@@ -17,6 +18,11 @@ sub_limit kind = limited (Kind.known kind) (Kind.sub_count kind)
 abbrev pub in_order : Bool → Result (Unit {0}) Refusal
 in_order true = Ok tt
 in_order false = Err OutOfOrder
+
+-- a step's answer, told of a record
+abbrev pub told_at : Result (Unit {0}) Refusal → ℕ → Result (Unit {0}) Refused
+told_at (Ok passed) i = Ok passed
+told_at (Err why) i = Err (record { refusal = why; index = i })
 
 -- the number of the row, if there is one
 abbrev pub own_of : Result (Unit {0}) Refusal → Option ℕ

@@ -15,6 +15,7 @@ ghost use Rattle.refusals.specs.Turned.{record_of, endless_by};
 ghost use Rattle.refusals.specs.Ends.{EndsAt, EndFound, Kept};
 
 use crate::bytes::is_newtype;
+use crate::order::refused_at;
 use rules::{Refusal, Refused};
 use sheet::kinds;
 
@@ -97,13 +98,7 @@ fn is_endless(sheet: &[u8], table: &mut [u16; 5122], i: usize, n: usize) -> bool
     requires { Lasting (context_by table.old sheet.now) × (i < n) × (n ≤ 1024) }
     ensures { (result ≡ (is_of 1 4 (view_at sheet.now i) && leads_nowhere (context_by table.old sheet.now) (view_of sheet.now (i + 1) n))) × Kept sheet.now table.old table.new }
 {
-    if !is_newtype(sheet, i) {
-        return false;
-    }
-    if i + 1 < n {
-        return never_ends(sheet, table, i + 1);
-    }
-    false
+    is_newtype(sheet, i) && i + 1 < n && never_ends(sheet, table, i + 1)
 }
 
 // The first newtype whose chain never ends. The newtypes end at `end`.
@@ -114,10 +109,7 @@ pub fn endless(sheet: &[u8], table: &mut [u16; 5122], end: usize) -> Result<(), 
     let n = sheet::records(sheet);
     for i in 0..end {
         if is_endless(sheet, table, i, n) {
-            return Err(Refused {
-                refusal: Refusal::EndlessChain,
-                index: i as u32,
-            });
+            return Err(refused_at(Refusal::EndlessChain, i));
         }
     }
     Ok(())

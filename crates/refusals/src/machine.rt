@@ -112,7 +112,7 @@ impl State {
         requires { self.old.body ≡ Context }
         ensures { step_of result self.new due.new ≡ Grammar.context_step (type_with (is_bits self.old.item) due.old) (bare kind sub) }
     {
-        if (kinds::DECLARATION <= kind) & (kind <= kinds::WILDCARD) {
+        if matches!(kind, kinds::DECLARATION..=kinds::WILDCARD) {
             in_order(due.is_empty())?;
             self.context_item(due, kind, sub);
             return Ok(());

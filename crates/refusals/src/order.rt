@@ -1,8 +1,8 @@
-// Row 6.
-ghost use Rattle.std.specs.Prelude.{◌≡◌};
-ghost use Rattle.refusals.specs.Answers.{in_order};
+// Row 6, and which record a refusal is told of.
+ghost use Rattle.std.specs.Prelude.{◌≡◌, ◌≤◌};
+ghost use Rattle.refusals.specs.Answers.{in_order, told_at};
 
-use rules::Refusal;
+use rules::{Refusal, Refused};
 
 // A record that may stand where it does, or that is out of order.
 pub fn in_order(may: bool) -> Result<(), Refusal>
@@ -12,4 +12,23 @@ pub fn in_order(may: bool) -> Result<(), Refusal>
         return Ok(());
     }
     Err(Refusal::OutOfOrder)
+}
+
+// The refusal, told of record `i`; an accepted length has 1,024 records at most.
+pub fn refused_at(refusal: Refusal, i: usize) -> Refused
+    requires { i ≤ 1024 }
+    ensures { result ≡ record { refusal = refusal; index = i } }
+{
+    Refused {
+        refusal,
+        index: i as u32,
+    }
+}
+
+// What a step answers, told of record `i`.
+pub fn told_at(step: Result<(), Refusal>, i: usize) -> Result<(), Refused>
+    requires { i ≤ 1024 }
+    ensures { result ≡ told_at step i }
+{
+    step.map_err(|refusal| refused_at(refusal, i))
 }

@@ -10,6 +10,7 @@ ghost use Rattle.refusals.specs.Pass.{is_second, or_second, record_step_by, firs
 
 use crate::bytes::{byte, is_newtype};
 use crate::due::Due;
+use crate::order::{refused_at, told_at};
 use crate::own::own_fault;
 use crate::runs::run_end;
 use crate::state::State;
@@ -89,25 +90,14 @@ pub fn first_fault(sheet: &[u8], names: &[u8], table: &[u16; 5122]) -> Result<us
     let mut i = 0;
     let mut end = 0;
     while i < n {
-        match record_step(sheet, names, table, &mut due, &mut state, i) {
-            Err(refusal) => {
-                return Err(Refused {
-                    refusal,
-                    index: i as u32,
-                });
-            }
-            Ok(()) => {
-                end = newtypes_end(sheet, end, i);
-                // A run is as long as its records make it, so that no `for` can step here.
-                i = run_end(sheet, names, &mut due, state, i + 1);
-            }
-        }
+        let step = record_step(sheet, names, table, &mut due, &mut state, i);
+        told_at(step, i)?;
+        end = newtypes_end(sheet, end, i);
+        // A run is as long as its records make it, so that no `for` can step here.
+        i = run_end(sheet, names, &mut due, state, i + 1);
     }
     if state.may_end(&due) {
         return Ok(end);
     }
-    Err(Refused {
-        refusal: Refusal::OutOfOrder,
-        index: n as u32,
-    }) // row 6
+    Err(refused_at(Refusal::OutOfOrder, n)) // row 6
 }

@@ -8,6 +8,7 @@ ghost use Rattle.refusals.specs.Pass.{verdict_of};
 ghost use Rattle.refusals.specs.Turned.{refusal_by};
 
 use crate::chain::endless;
+use crate::order::refused_at;
 use crate::pass::first_fault;
 use rules::{Refusal, Refused, Sheet};
 
@@ -17,16 +18,10 @@ fn refuse(sheet: &[u8], names: &[u8], table: &mut [u16; 5122]) -> Result<(), Ref
     ensures { (verdict_of result ≡ refusal_by table.old sheet.now names.now) × SameEnds (context_by table.old sheet.now) (context_by table.new sheet.now) }
 {
     if (sheet.len() % Sheet::RECORD != 0) | (Sheet::MAX_LEN < sheet.len()) {
-        return Err(Refused {
-            refusal: Refusal::SheetLength,
-            index: 0,
-        }); // row 1
+        return Err(refused_at(Refusal::SheetLength, 0)); // row 1
     }
     if Sheet::MAX_NAMES_LEN < names.len() {
-        return Err(Refused {
-            refusal: Refusal::NamesLength,
-            index: 0,
-        }); // row 2
+        return Err(refused_at(Refusal::NamesLength, 0)); // row 2
     }
     let end = first_fault(sheet, names, table)?;
     endless(sheet, table, end) // row 9

@@ -26,9 +26,8 @@ fn is_plain_nest(sheet: &[u8], i: usize) -> bool
     requires { i < length sheet.now / 32 }
     ensures { result ≡ (clean_in (record_bytes sheet.now i) && is_nest (kind_in (record_bytes sheet.now i))) }
 {
-    let kind = byte(sheet, i, 0);
     let clean = byte(sheet, i, 3) == 0;
-    clean & ((kinds::OPTIONAL <= kind) & (kind <= kinds::SET))
+    clean & matches!(byte(sheet, i, 0), kinds::OPTIONAL..=kinds::SET)
 }
 
 // The first record from `i` up to `n` that is not plain.

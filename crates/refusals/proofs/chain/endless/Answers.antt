@@ -12,7 +12,7 @@ returns-then-is_endless c =
     let inv = c.loop-i.invariant in
     let found = c.is_endless.ensures in
     let here = kept_nowhere _ _ _ c.loop-i.i c.records-n.result _ inv.0 found.0 in
-    (endless_found _ _ _ _ _ _ inv.1 here (omega arith) c.if-is_endless.true, (kept_through _ _ _ _ inv.0 found.1).same)
+    (rw c.refused_at.ensures (endless_found _ _ _ _ _ _ inv.1 here (omega arith) c.if-is_endless.true), (kept_through _ _ _ _ inv.0 found.1).same)
 
 pub loop-i-preserved : goal.loop-i-preserved
 loop-i-preserved c =

@@ -1,20 +1,25 @@
 -- A step takes one record off those that are left, and a run behind it as many as it has.
 use Rattle.std.proofs.Common.{◌∙◌, arith}
-use Rattle.refusals.proofs.Passes.{pass_fault, pass_again, pass_done, pass_early, pass_starts, count_below, count_reached, none_ended, ends_all}
+use Rattle.std.proofs.lemmas.Result.{err_from_is_err_and}
+use Rattle.refusals.proofs.Passes.{pass_fault, pass_again, pass_done, pass_early, pass_starts, count_below, count_reached, none_ended, ends_all, told}
 use Rattle.refusals.proofs.pass.first_fault.Goals as goal
 
 pub loop-i-init : goal.loop-i-init
 loop-i-init c = (omega arith, pass_starts _ _ _ _ _ c.start-state.ensures c.new-due.ensures, none_ended _)
 
-pub returns-in-Err : goal.returns-in-Err
-returns-in-Err c =
-    (pass_fault _ _ _ _ _ _ c.loop-i.invariant.1 _ (count_below _ _ _ c.records-n.ensures c.loop-i-test.true) c.in-Err.ensures, tt)
+pub returns-in_err-told_at : goal.returns-in_err-told_at
+returns-in_err-told_at c =
+    let step = told _ _ _ _ c.told_at.ensures c.in_err-told_at.was in
+    let p = err_from_is_err_and c.from_residual.result c.from_residual.ensures.1 in
+    rw (p.1, p.2, step.1)
+    (pass_fault _ _ _ _ _ _ c.loop-i.invariant.1 _ (count_below _ _ _ c.records-n.ensures c.loop-i-test.true) (rw step.0 at c.record_step-step.ensures), tt)
 
 pub loop-i-preserved : goal.loop-i-preserved
 loop-i-preserved c =
-    let ran = c.run_end-i.ensures in (
+    let ran = c.run_end-i.ensures in
+    let step = told _ _ _ _ c.told_at.ensures c.in_ok-told_at.was in (
       omega (arith, ran.most, c.records-n.ensures),
-      ran.same _ ∙ pass_again _ _ _ _ _ _ c.loop-i.invariant.1 _ (count_below _ _ _ c.records-n.ensures c.loop-i-test.true) c.in-Ok.ensures,
+      ran.same _ ∙ pass_again _ _ _ _ _ _ c.loop-i.invariant.1 _ (count_below _ _ _ c.records-n.ensures c.loop-i-test.true) (rw step at c.record_step-step.ensures),
       ran.ended _ c.newtypes_end-end.ensures,
     )
 
@@ -28,7 +33,7 @@ returns-then-may_end c =
 pub returns : goal.returns
 returns c =
     let inv = c.loop-i.invariant in (
-      pass_early _ _ _ _ _ _ inv.1 _ _ (count_reached _ _ _ c.records-n.ensures c.loop-i-test.false) inv.0 c.records-n.ensures c.may_end.ensures
-          c.if-may_end.false,
+      rw c.refused_at.ensures (pass_early _ _ _ _ _ _ inv.1 _ _ (count_reached _ _ _ c.records-n.ensures c.loop-i-test.false) inv.0 c.records-n.ensures c.may_end.ensures
+          c.if-may_end.false),
       tt,
     )

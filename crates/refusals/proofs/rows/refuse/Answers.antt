@@ -7,10 +7,10 @@ use Rattle.refusals.proofs.RefusalFilled.{passed_lasting}
 use Rattle.refusals.proofs.rows.refuse.Goals as goal
 
 pub returns-then-sheet : goal.returns-then-sheet
-returns-then-sheet c = (row_1 _ _ _ c.if-sheet.true, same-itself _)
+returns-then-sheet c = (rw c.refused_at.ensures (row_1 _ _ _ c.if-sheet.true), same-itself _)
 
 pub returns-then-names-gt-MAX_NAMES_LEN : goal.returns-then-names-gt-MAX_NAMES_LEN
-returns-then-names-gt-MAX_NAMES_LEN c = (row_2 _ _ _ c.if-sheet.false c.if-names-gt-MAX_NAMES_LEN.true, same-itself _)
+returns-then-names-gt-MAX_NAMES_LEN c = (rw c.refused_at-then-names-gt-MAX_NAMES_LEN.ensures (row_2 _ _ _ c.if-sheet.false c.if-names-gt-MAX_NAMES_LEN.true), same-itself _)
 
 pub returns-in_err-end : goal.returns-in_err-end
 returns-in_err-end c =
