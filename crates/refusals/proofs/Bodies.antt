@@ -18,7 +18,7 @@ use Rattle.refusals.specs.declared.state.Item.{Item}
 use Rattle.refusals.specs.declared.state.State.{State}
 use Rattle.refusals.specs.Due.{bare}
 use Rattle.refusals.specs.States.{is_bits, type_item, type_in, type_with, in_body, in_fields, field_list_of, state_of, GoesOn}
-use Rattle.refusals.proofs.Items.{lifted_twice, type_part}
+use Rattle.refusals.proofs.Items.{lifted_twice, part, typed_as, field_typed}
 use Rattle.refusals.proofs.KindOnly.{list_kind, union_kind}
 
 bits-item : (b : Bool) → is_bits (type_item b) ≡ b
@@ -38,16 +38,16 @@ module _ (s : State) (ds : List Due) (kind : ℕ) (bits : Bool) (hb : bits ≡ i
   abbrev inner : Grammar.Step Grammar.State
   inner = lifted (type_in s.body) (type_step (type_with (is_bits s.item) ds) (bare kind 0))
 
-  inner-part : (bits && eqb kind 22) ≡ false → inner ≡ lifted (type_in s.body) (lifted (type_with (eqb kind 48)) (part_step ds (bare kind 0)))
-  inner-part f = ap (lifted (type_in s.body)) (type_part ds kind (is_bits s.item) (ap (λ b. b && eqb kind 22) (sym hb) ∙ f))
+  inner-part : (bits && eqb kind 22) ≡ false → lifted (λ (p : Item × List Due). in_body s.body p.0 p.1) (part ds kind) ≡ inner
+  inner-part f = typed_as ds kind (type_in s.body) (in_body s.body) (λ b l. refl) (is_bits s.item) (ap (λ b. b && eqb kind 22) (sym hb) ∙ f)
 
-  pub inner_fault : (n : ℕ) → (bits && eqb kind 22) ≡ false → Grammar.fault n ≡ part_step ds (bare kind 0) → Grammar.fault n ≡ inner
-  inner_fault n f e = ap (λ x. lifted (type_in s.body) (lifted (type_with (eqb kind 48)) x)) e ∙ sym (inner-part f)
+  pub inner_fault : (n : ℕ) → (bits && eqb kind 22) ≡ false → Grammar.fault n ≡ part ds kind → Grammar.fault n ≡ inner
+  inner_fault n f e = ap (lifted (λ (p : Item × List Due). in_body s.body p.0 p.1)) e ∙ inner-part f
 
-  pub inner_taken : (after : List Due) → (bits && eqb kind 22) ≡ false → Grammar.to after ≡ part_step ds (bare kind 0)
-      → Grammar.to (state_of (record { body = s.body; item = type_item (eqb kind 48) }) after) ≡ inner
+  pub inner_taken : (item : Item) (after : List Due) → (bits && eqb kind 22) ≡ false → Grammar.to (item, after) ≡ part ds kind
+      → Grammar.to (state_of (record { body = s.body; item = item }) after) ≡ inner
   unfolding state_of
-  inner_taken after f e = ap (λ x. lifted (type_in s.body) (lifted (type_with (eqb kind 48)) x)) e ∙ sym (inner-part f)
+  inner_taken item after f e = ap (lifted (λ (p : Item × List Due). in_body s.body p.0 p.1)) e ∙ inner-part f
 
   pub inner_bits : (bits && eqb kind 22) ≡ true → Grammar.to (state_of s ds) ≡ inner
   unfolding state_of type_step
@@ -140,19 +140,9 @@ module _ (s : State) (ds : List Due) (kind sub : ℕ) (g : GoesOn s ds kind) whe
   here : in_fields s.body kind ≡ true
   here = ap (λ b. in_fields b kind) g.message
 
-  pub type_taken : (after : List Due) → Grammar.to after ≡ part_step ds (bare kind 0)
-      → Grammar.to (state_of (record { body = s.body; item = type_item (eqb kind 48) }) after) ≡ step (state_of s ds) (bare kind sub)
-  type_taken after e =
-      list_taken kind sub s ds here (type_item (eqb kind 48)) after
-      (sym (typed-item (eqb kind 48) after) ∙ ap (λ x. lifted (λ t. field (typed t)) (lifted (type_with (eqb kind 48)) x)) e
-      ∙ sym (ap (lifted (λ t. field (typed t))) (type_part ds kind false refl)) ∙ sym type-list)
-    where
-      typed-item : (b : Bool) (after : List Due) → Grammar.to (field (typed (type_with b after))) ≡ Grammar.to (field_list_of (type_item b) after)
-      typed-item true after = refl
-      typed-item false after = refl
+  pub type_taken : (item : Item) (after : List Due) → Grammar.to (item, after) ≡ part ds kind
+      → Grammar.to (state_of (record { body = s.body; item = item }) after) ≡ step (state_of s ds) (bare kind sub)
+  type_taken item after e = list_taken kind sub s ds here item after (ap (lifted (λ (p : Item × List Due). field_list_of p.0 p.1)) e ∙ field_typed ds kind ∙ sym type-list)
 
-  pub type_fault : (n : ℕ) → Grammar.fault n ≡ part_step ds (bare kind 0) → Grammar.fault n ≡ step (state_of s ds) (bare kind sub)
-  type_fault n e =
-      list_fault kind sub s ds here n
-      (ap (λ x. lifted (λ t. field (typed t)) (lifted (type_with (eqb kind 48)) x)) e
-      ∙ sym (ap (lifted (λ t. field (typed t))) (type_part ds kind false refl)) ∙ sym type-list)
+  pub type_fault : (n : ℕ) → Grammar.fault n ≡ part ds kind → Grammar.fault n ≡ step (state_of s ds) (bare kind sub)
+  type_fault n e = list_fault kind sub s ds here n (ap (lifted (λ (p : Item × List Due). field_list_of p.0 p.1)) e ∙ field_typed ds kind ∙ sym type-list)

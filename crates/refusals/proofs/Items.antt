@@ -12,7 +12,10 @@ use Rattle.rules.specs.Kind.{type, condition, operand}
 use Rattle.rules.specs.Grammar as Grammar
 use Rattle.rules.specs.Grammar.{Due, due_at, none_due, type_due, lifted, part_step, type_step, field_step, field, typed, conditioned, annotations}
 use Rattle.refusals.specs.Due.{bare}
-use Rattle.refusals.specs.States.{type_with, condition_due}
+use Rattle.refusals.specs.States.{type_with, type_item, field_list_of, condition_due, typed_of, item_step_of}
+use Rattle.refusals.specs.declared.state.Item.{Item}
+use Rattle.rules.specs.declared.answer.Refusal.{Refusal}
+use Rattle.std.specs.Prelude.{Result, Ok, Err}
 
 pub lifted_twice : {S T U : Type 0} (f : S → T) (g : T → U) (x : Grammar.Step S) → lifted g (lifted f x) ≡ lifted (λ s. g (f s)) x
 lifted_twice f g (Grammar.to s) = refl
@@ -47,6 +50,38 @@ module _ (ds : List Due) (kind : ℕ) where
       go true h (yes e) = let z : ◌≡◌ {A = Bool} true false = sym (eq-eqb kind 22 e) ∙ h in cc
       go false h (yes e) = rw e (sym (ap (lifted (type_with false)) (no-bit-name ds)))
       go b h (no n) = rw (type_step, ne_eqb kind 22 n) refl
+
+  -- the type's part, and where the type stands then
+  abbrev pub part : Grammar.Step (Item × List Due)
+  part = lifted (λ l. (type_item (eqb kind Kind.BitsInline), l)) (part_step ds (bare kind 0))
+
+  pub typed_as : {S : Type 0} (f : Grammar.TypeState → S) (g : Item → List Due → S) → ((b : Bool) (l : List Due) → g (type_item b) l ≡ f (type_with b l))
+      → (bits : Bool) → (bits && eqb kind 22) ≡ false → lifted (λ (p : Item × List Due). g p.0 p.1) part ≡ lifted f (type_step (type_with bits ds) (bare kind 0))
+  typed_as f g same bits h = by (eqb kind Kind.BitsInline) (part_step ds (bare kind 0)) ∙ ap (lifted f) (sym (type_part bits h))
+    where
+      by : (b : Bool) (x : Grammar.Step (List Due)) → lifted (λ (p : Item × List Due). g p.0 p.1) (lifted (λ l. (type_item b, l)) x) ≡ lifted f (lifted (type_with b) x)
+      by b (Grammar.to l) = ap Grammar.to (same b l)
+      by b (Grammar.fault n) = refl
+
+  in-field : (b : Bool) (l : List Due) → field_list_of (type_item b) l ≡ field (typed (type_with b l))
+  in-field true l = refl
+  in-field false l = refl
+
+  pub field_typed : lifted (λ (p : Item × List Due). field_list_of p.0 p.1) part ≡ lifted (λ t. field (typed t)) (type_step (type_with false ds) (bare kind 0))
+  field_typed = typed_as (λ t. field (typed t)) field_list_of in-field false refl
+
+  module _ (r : Result Item Refusal) (after : List Due) (e : typed_of r after ≡ part) where
+    pub type_field : item_step_of r after ≡ lifted (λ t. field (typed t)) (type_step (type_with false ds) (bare kind 0))
+    type_field = by r ∙ ap (lifted (λ (p : Item × List Due). field_list_of p.0 p.1)) e ∙ field_typed
+      where
+        by : (x : Result Item Refusal) → item_step_of x after ≡ lifted (λ (p : Item × List Due). field_list_of p.0 p.1) (typed_of x after)
+        by (Ok item) = refl
+        by (Err why) = refl
+
+    -- where the type has not ended, it goes on
+    pub type_goes_on : none_due ds ≡ false → item_step_of r after ≡ lifted field (field_step (typed (type_with false ds)) (bare kind 0))
+    unfolding field_step
+    type_goes_on some = type_field ∙ rw (field_step, some) (sym (lifted_twice typed field (type_step (type_with false ds) (bare kind 0))))
 
   -- where the type has ended, a condition begins
   pub condition_instead : none_due ds ≡ true → lifted (λ l. field (conditioned l)) (part_step condition_due (bare kind 0)) ≡ lifted field (field_step (typed (type_with false ds)) (bare kind 0))

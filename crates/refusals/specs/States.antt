@@ -79,7 +79,11 @@ pub record GoesOn (s : State) (ds : List Due) (kind : ℕ) : Type 0 where
 unfoldable pub state_of : State → List Due → Grammar.State
 state_of s ds = in_body s.body s.item ds
 
--- a step in a field list, and a step of the machine
+-- a step in a type, in a field list, and of the machine
+abbrev pub typed_of : Result Item Refusal → List Due → Grammar.Step (Item × List Due)
+typed_of (Ok item) ds = Grammar.to (item, ds)
+typed_of (Err why) ds = Grammar.fault (number_of why)
+
 abbrev pub item_step_of : Result Item Refusal → List Due → Grammar.Step FieldListState
 item_step_of (Ok item) ds = Grammar.to (field_list_of item ds)
 item_step_of (Err why) ds = Grammar.fault (number_of why)

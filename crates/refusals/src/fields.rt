@@ -3,7 +3,7 @@ ghost use Rattle.std.specs.Prelude.{◌≡◌, true, false, eqb};
 ghost use Rattle.rules.specs.Kind;
 ghost use Rattle.rules.specs.Grammar.{part_step, type_step, field_step, field_list_step, field_list_done, in_field_item, lifted, field, typed, conditioned, annotations, type_due};
 ghost use Rattle.refusals.specs.Due.{bare};
-ghost use Rattle.refusals.specs.States.{field_list_of, begun_by, condition_due, type_with, type_item, item_step_of};
+ghost use Rattle.refusals.specs.States.{field_list_of, begun_by, condition_due, type_with, type_item, typed_of, item_step_of};
 
 use crate::due::{Due, Part};
 use crate::order::in_order;
@@ -23,7 +23,7 @@ pub fn is_done(due: &Due, item: Item) -> bool
 }
 
 // Where a type stands after a record of the kind, one of its parts: a bit name may come after an inline type of bits.
-pub fn after_type(kind: u8) -> Item
+fn after_type(kind: u8) -> Item
     ensures { result ≡ type_item (eqb kind Kind.BitsInline) }
 {
     if kind == kinds::BITS_INLINE {
@@ -32,16 +32,16 @@ pub fn after_type(kind: u8) -> Item
     Item::Typed
 }
 
-// A part of a field's type.
-#[tactic(auto, using(crate::proofs::Items::type_part))]
-fn type_part(due: &mut Due, kind: u8) -> Result<Item, Refusal>
-    ensures { item_step_of result due.new ≡ lifted (λ t. field (typed t)) (type_step (type_with false due.old) (bare kind 0)) }
+// A part of a type, and where the type stands then.
+pub fn type_part(due: &mut Due, kind: u8) -> Result<Item, Refusal>
+    ensures { typed_of result due.new ≡ lifted (λ ds. (type_item (eqb kind Kind.BitsInline), ds)) (part_step due.old (bare kind 0)) }
 {
     due.part_step(kind)?;
     Ok(after_type(kind))
 }
 
 // A field's type begins: one is due, of depth 1.
+#[tactic(auto, using(crate::proofs::Items::type_field))]
 fn type_begins(due: &mut Due, kind: u8) -> Result<Item, Refusal>
     ensures { item_step_of result due.new ≡ lifted (λ t. field (typed t)) (type_step type_due (bare kind 0)) }
 {
@@ -88,7 +88,7 @@ fn condition_begins(due: &mut Due, kind: u8) -> Result<Item, Refusal>
 }
 
 // A field in its type: the type goes on, or a condition begins where the type has ended.
-#[tactic(auto, using(crate::proofs::Items::condition_instead, crate::proofs::Items::lifted_twice), unfolding(rules::specs::Grammar::field_step))]
+#[tactic(auto, using(crate::proofs::Items::condition_instead, crate::proofs::Items::type_goes_on), unfolding(rules::specs::Grammar::field_step))]
 fn typed_step(due: &mut Due, kind: u8) -> Result<Item, Refusal>
     ensures { item_step_of result due.new ≡ lifted field (field_step (typed (type_with false due.old)) (bare kind 0)) }
 {

@@ -8,7 +8,7 @@ ghost use Rattle.refusals.specs.Due.{bare};
 ghost use Rattle.refusals.specs.States.{is_bits, type_with, type_in, in_fields, GoesOn, field_list_of, state_of, start_state, step_of};
 
 use crate::due::{Due, Part};
-use crate::fields::{after_type, field_list_step, is_done};
+use crate::fields::{field_list_step, is_done, type_part};
 use crate::order::in_order;
 use crate::state::{Body, Item, State};
 use rules::Refusal;
@@ -82,15 +82,14 @@ impl State {
     }
 
     // A newtype's inner type, of the context or of the body.
-    #[tactic(auto, using(crate::proofs::Bodies::inner_bits, crate::proofs::Bodies::inner_fault, crate::proofs::Bodies::inner_taken))]
+    #[tactic(auto, using(crate::proofs::Bodies::inner_bits, crate::proofs::Bodies::inner_taken))]
     fn inner_step(&mut self, due: &mut Due, kind: u8) -> Result<(), Refusal>
         ensures { step_of result self.new due.new ≡ Grammar.lifted (type_in self.old.body) (Grammar.type_step (type_with (is_bits self.old.item) due.old) (bare kind 0)) }
     {
         if (self.item == Item::BitNames) & (kind == kinds::BIT_NAME) {
             return Ok(());
         }
-        due.part_step(kind)?;
-        self.item = after_type(kind);
+        self.item = type_part(due, kind)?;
         Ok(())
     }
 
@@ -198,13 +197,12 @@ impl State {
     //
     // The most common step comes first, without going by the bodies and the items. A field list is asked for in one place, so that its step is
     // compiled into the pass.
-    #[tactic(auto, using(crate::proofs::Bodies::list_taken, crate::proofs::Bodies::list_fault, crate::proofs::Bodies::type_taken, crate::proofs::Bodies::type_fault))]
+    #[tactic(auto, using(crate::proofs::Bodies::list_taken, crate::proofs::Bodies::list_fault, crate::proofs::Bodies::type_taken))]
     pub fn step(&mut self, due: &mut Due, kind: u8, sub: u8) -> Result<(), Refusal>
         ensures { step_of result self.new due.new ≡ Grammar.step (state_of self.old due.old) (bare kind sub) }
     {
         if self.type_goes_on(due, kind) {
-            due.part_step(kind)?;
-            self.item = after_type(kind);
+            self.item = type_part(due, kind)?;
             return Ok(());
         }
         if in_fields(self.body, kind) {
