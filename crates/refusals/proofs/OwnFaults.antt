@@ -2,7 +2,8 @@
 use Prim.Native.Nat.{ℕ, zero, suc, ◌+◌, ◌≤◌, ◌<◌}
 use native.Mathlib.Omega.{arith}
 use native.Mathlib.Decide.{ℕ_discrete}
-use mathlib.Core.Path.{◌≡◌, refl, sym, ap, ◌∙◌}
+use Rattle.std.specs.Prelude as std
+use mathlib.Core.Path.{◌≡◌, refl, sym, ap, ◌∙◌, subst}
 use mathlib.Core.Bool.{Bool, true, false, not, ◌&&◌, ◌||◌, or-true}
 use mathlib.Core.List.{List, []}
 use mathlib.Core.Option.{some, none}
@@ -30,20 +31,35 @@ limit-test : (n a : ℕ) → a < 256 → (z : Bool) → eqb n 0 ≡ z
 limit-test n a h true e = lt-ltb a 256 h
 limit-test n a h false e = sym (ap (λ (t : Bool). ltb (number_if t a) n) (lt-ltb 0 n (some-subs n (eqb-false n 0 e))))
 
-limit-known : (known : Bool) (n a : ℕ) (clean : Bool) → a < 256
-    → (ltb a (limited known n) && clean) ≡ (known && (eqb n 0 || ltb (number_if (ltb 0 n) a) n) && clean)
-limit-known true n a clean h = ap (λ (t : Bool). t && clean) (limit-test n a h (eqb n 0) refl)
-limit-known false n a clean h = ap (λ (t : Bool). t && clean) (le-ltb a 0 (omega arith))
+unknown-limited : (known : Bool) (n a : ℕ) (clean : Bool) → a < 256 → (o : std.Option ℕ) → o ≡ limited known n
+    → elim o [ std.None ↦ true | std.Some limit ↦ not (ltb a limit && clean) ] ≡ not (known && (eqb n 0 || ltb (number_if (ltb 0 n) a) n) && clean)
+unknown-limited true n a clean h o e = rw e (ap (λ (t : Bool). not (t && clean)) (limit-test n a h (eqb n 0) refl))
+unknown-limited false n a clean h o e = rw e refl
 
-pub unknown_read : (b : List ℕ) (kind sub limit : ℕ) (clean : Bool)
-    → kind ≡ kind_in b → sub ≡ get_or b 1 0 → sub < 256 → limit ≡ sub_limit kind → clean ≡ clean_in b
-    → not (ltb sub limit && clean) ≡ is_unknown (decode [] b)
-unfolding decode sub_in
-unknown_read b kind sub limit clean hk hs h256 hl hc =
-    let same : limit ≡ sub_limit (kind_in b) = hl ∙ ap sub_limit hk in
-    let small : get_or b 1 0 < 256 = rw hs at h256 in
-    ap not (ap (λ (n : ℕ). ltb n limit && clean) hs ∙ ap (λ (n : ℕ). ltb (get_or b 1 0) n && clean) same ∙ ap (λ (c : Bool). ltb (get_or b 1 0) (sub_limit (kind_in b)) && c) hc
-    ∙ limit-known (Kind.known (kind_in b)) (Kind.sub_count (kind_in b)) (get_or b 1 0) (clean_in b) small)
+abbrev Missing : std.Option ℕ → Type 0
+Missing std.None = Unit {0}
+Missing (std.Some x) = ⊥
+
+module _ (b : List ℕ) (kind : ℕ) (hk : kind ≡ kind_in b) (o : std.Option ℕ) (ho : o ≡ sub_limit kind) where
+  unknown-by : (sub : ℕ) (clean : Bool) → sub ≡ get_or b 1 0 → sub < 256 → clean ≡ clean_in b
+      → elim o [ std.None ↦ true | std.Some limit ↦ not (ltb sub limit && clean) ] ≡ is_unknown (decode [] b)
+  unfolding decode sub_in
+  unknown-by sub clean hs h256 hc =
+      ap (λ (s : ℕ). elim o [ std.None ↦ true | std.Some limit ↦ not (ltb s limit && clean) ]) hs
+      ∙ ap (λ (c : Bool). elim o [ std.None ↦ true | std.Some limit ↦ not (ltb (get_or b 1 0) limit && c) ]) hc
+      ∙ unknown-limited (Kind.known (kind_in b)) (Kind.sub_count (kind_in b)) (get_or b 1 0) (clean_in b) (rw hs at h256) o (ho ∙ ap sub_limit hk)
+
+  pub unknown_none : o ≡ std.None → true ≡ is_unknown (decode [] b)
+  unfolding decode
+  unknown_none e = go (Kind.known (kind_in b)) refl (sym e ∙ ho ∙ ap sub_limit hk)
+    where
+      go : (known : Bool) → Kind.known (kind_in b) ≡ known → std.None ≡ limited known (Kind.sub_count (kind_in b)) → true ≡ is_unknown (decode [] b)
+      go true q n = absurd (subst Missing n tt)
+      go false q n = rw q
+
+  pub unknown_some : (limit : ℕ) → o ≡ std.Some limit → (sub : ℕ) (clean : Bool) → sub ≡ get_or b 1 0 → sub < 256 → clean ≡ clean_in b
+      → not (ltb sub limit && clean) ≡ is_unknown (decode [] b)
+  unknown_some limit e sub clean hs h256 hc = rw e at (unknown-by sub clean hs h256 hc)
 
 -- row 4: of the kinds that may have a name, kind 60 alone is asked for its sub
 pub named-read : (b : List ℕ) (kind sub : ℕ) → kind ≡ kind_in b → sub ≡ get_or b 1 0 → Kind.has_name kind sub ≡ is_named_in b

@@ -1,4 +1,5 @@
 -- What each answer of the code says, in the words of the definitions.
+use Rattle.std.specs.Prelude as std
 use Rattle.std.specs.Prelude.{ℕ, Bool, true, false, Result, Ok, Err, eqb}
 use Rattle.std.proofs.Math.Option.{Option, some, none}
 use Rattle.rules.specs.Kind
@@ -7,11 +8,11 @@ use Rattle.rules.specs.declared.answer.Refusal.{Refusal}
 use Rattle.rules.specs.declared.answer.Refused.{Refused}
 use Rattle.rules.specs.declared.answer.Refusal.TheVariants.{OutOfOrder}
 
--- what byte 1 is to be less than: how many subs the kind has; 256 for a kind without a sub, 0 where there is no such kind
-abbrev pub limited : Bool → ℕ → ℕ
-limited known subs = elim known [ true ↦ elim (eqb subs 0) [ true ↦ 256 | false ↦ subs ] | false ↦ 0 ]
+-- what byte 1 is to be less than, if there is such a kind: how many subs the kind has; 256 for a kind without a sub
+abbrev pub limited : Bool → ℕ → std.Option ℕ
+limited known subs = elim known [ true ↦ std.Some (elim (eqb subs 0) [ true ↦ 256 | false ↦ subs ]) | false ↦ std.None ]
 
-abbrev pub sub_limit : ℕ → ℕ
+abbrev pub sub_limit : ℕ → std.Option ℕ
 sub_limit kind = limited (Kind.known kind) (Kind.sub_count kind)
 
 -- row 6

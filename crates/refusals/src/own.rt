@@ -10,67 +10,67 @@ use crate::bytes::{byte, name_end, value};
 use rules::{Refusal, Sheet};
 use sheet::kinds;
 
-// What byte 1 is to be less than: how many subs the kind has; 256 for a kind without a sub, 0 where there is no such kind.
+// What byte 1 is to be less than, if there is such a kind: how many subs the kind has; 256 for a kind without a sub, whose byte 1 may be any.
 // One arm for each kind is compiled to a table; arms of several kinds are not, and take longer.
 #[tactic(auto, unfolding(rules::specs::Words::look_up))]
-fn sub_limit(kind: u8) -> u16
+fn sub_limit(kind: u8) -> Option<u16>
     ensures { result ≡ sub_limit kind }
 {
     match kind {
-        kinds::DECLARATION => 10,
-        kinds::IMPORTED_NAME => 256,
-        kinds::WILDCARD => 256,
-        kinds::HEAD => 5,
-        kinds::FIELD => 256,
-        kinds::FIELD_TOMBSTONE => 256,
-        kinds::INVARIANT => 256,
-        kinds::VARIANT => 256,
-        kinds::TOMBSTONE => 256,
-        kinds::BACKING => 4,
-        kinds::ANNOTATION => 256,
-        kinds::ARGUMENT => 6,
-        kinds::BIT_NAME => 256,
-        kinds::PRIMITIVE => 14,
-        kinds::SUB_BYTE => 256,
-        kinds::SEMANTIC => 6,
-        kinds::NAMED => 256,
-        kinds::QUALIFIED => 256,
-        kinds::GENERIC => 256,
-        kinds::OPTIONAL => 256,
-        kinds::ARRAY => 256,
-        kinds::FIXED_ARRAY => 256,
-        kinds::SET => 256,
-        kinds::MAP => 256,
-        kinds::RESULT => 256,
-        kinds::VEC2 => 256,
-        kinds::VEC3 => 256,
-        kinds::VEC4 => 256,
-        kinds::QUAT => 256,
-        kinds::MAT3 => 256,
-        kinds::MAT4 => 256,
-        kinds::BITS_INLINE => 256,
-        kinds::AND => 256,
-        kinds::OR => 256,
-        kinds::NOT => 256,
-        kinds::CMP => 6,
-        kinds::RANGE => 2,
-        kinds::LEN_CMP => 6,
-        kinds::LEN_RANGE => 2,
-        kinds::OPERAND => 6,
-        _ => 0,
+        kinds::DECLARATION => Some(10),
+        kinds::IMPORTED_NAME => Some(256),
+        kinds::WILDCARD => Some(256),
+        kinds::HEAD => Some(5),
+        kinds::FIELD => Some(256),
+        kinds::FIELD_TOMBSTONE => Some(256),
+        kinds::INVARIANT => Some(256),
+        kinds::VARIANT => Some(256),
+        kinds::TOMBSTONE => Some(256),
+        kinds::BACKING => Some(4),
+        kinds::ANNOTATION => Some(256),
+        kinds::ARGUMENT => Some(6),
+        kinds::BIT_NAME => Some(256),
+        kinds::PRIMITIVE => Some(14),
+        kinds::SUB_BYTE => Some(256),
+        kinds::SEMANTIC => Some(6),
+        kinds::NAMED => Some(256),
+        kinds::QUALIFIED => Some(256),
+        kinds::GENERIC => Some(256),
+        kinds::OPTIONAL => Some(256),
+        kinds::ARRAY => Some(256),
+        kinds::FIXED_ARRAY => Some(256),
+        kinds::SET => Some(256),
+        kinds::MAP => Some(256),
+        kinds::RESULT => Some(256),
+        kinds::VEC2 => Some(256),
+        kinds::VEC3 => Some(256),
+        kinds::VEC4 => Some(256),
+        kinds::QUAT => Some(256),
+        kinds::MAT3 => Some(256),
+        kinds::MAT4 => Some(256),
+        kinds::BITS_INLINE => Some(256),
+        kinds::AND => Some(256),
+        kinds::OR => Some(256),
+        kinds::NOT => Some(256),
+        kinds::CMP => Some(6),
+        kinds::RANGE => Some(2),
+        kinds::LEN_CMP => Some(6),
+        kinds::LEN_RANGE => Some(2),
+        kinds::OPERAND => Some(6),
+        _ => None,
     }
 }
 
 // Row 3: whether kind or sub is unknown, or byte 3 not 0.
-#[tactic(auto, using(crate::proofs::OwnFaults::unknown_read))]
+#[tactic(auto, using(crate::proofs::OwnFaults::unknown_none, crate::proofs::OwnFaults::unknown_some))]
 fn is_unknown(sheet: &[u8], i: usize) -> bool
     requires { i < length sheet.now / 32 }
     ensures { result ≡ is_unknown (decode [] (record_bytes sheet.now i)) }
 {
-    let kind = sheet::kind(sheet, i);
-    let sub = byte(sheet, i, 1);
-    let limit = sub_limit(kind);
-    !((u16::from(sub) < limit) & sheet::is_clean(sheet, i))
+    let Some(limit) = sub_limit(sheet::kind(sheet, i)) else {
+        return true;
+    };
+    !((u16::from(byte(sheet, i, 1)) < limit) & sheet::is_clean(sheet, i))
 }
 
 // Row 4: whether the name part ends beyond the names text.
