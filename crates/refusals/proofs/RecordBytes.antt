@@ -1,16 +1,25 @@
--- A byte of record i is the sheet's byte at 32 i and its place, and the library reads the definitions' number from such bytes.
-use Prim.Native.Nat.{ℕ, ◌+◌, ◌*◌, ◌<◌}
-use mathlib.Core.Path.{◌≡◌, refl, sym, ◌∙◌}
+-- The sheet's bytes in chunks of 32 are its records, and the library reads the definitions' number from the bytes of one.
+use Prim.Native.Nat.{ℕ, zero, suc, ◌+◌, ◌*◌, ◌/◌, ◌<◌}
+use mathlib.Core.Path.{◌≡◌, refl, ap, ◌∙◌}
 use mathlib.Core.List.{List, [], ◌∷◌}
 use native.Mathlib.Omega.{arith}
-use lib.ListN.{get_or, drop}
-use lib.Seq.{get_or-take, get_or-drop}
+use lib.ListN.{length, get_or, take, drop}
+use Rattle.std.specs.Simd.{first_chunks}
+use Rattle.std.proofs.lemmas.List.{drop-drop}
 use Rattle.std.specs.Int.{from_le_bytes, w32, w64}
-use Rattle.rules.specs.Record.{record_bytes, number_at}
+use Rattle.rules.specs.Record.{record_bytes, number_at, name_offset, name_length}
 use Rattle.sheet.proofs.Numbers.{word_read, long-read}
 
-pub byte_read : (sheet : List ℕ) (i at : ℕ) → at < 32 → get_or sheet (32 * i + at) 0 ≡ get_or (record_bytes sheet i) at 0
-byte_read sheet i at h = sym (get_or-take 32 (drop (32 * i) sheet) at 0 h ∙ get_or-drop (32 * i) sheet at 0)
+chunk-at : (n : ℕ) (xs : List ℕ) (i : ℕ) (d : List ℕ) → i < n → get_or (first_chunks 32 n xs) i d ≡ take 32 (drop (32 * i) xs)
+chunk-at zero xs i d h = absurd (omega arith)
+chunk-at (suc n) xs zero d h = refl
+chunk-at (suc n) xs (suc i) d h =
+    let next : 32 + 32 * i ≡ 32 * suc i = omega arith in
+    chunk-at n (drop 32 xs) i d (omega arith) ∙ ap (take 32) (drop-drop (32 * i) 32 xs ∙ ap (λ k. drop k xs) next)
+
+pub record_read : (sheet : List ℕ) (chunks : List (List ℕ)) (i : ℕ) (d : List ℕ) → chunks ≡ first_chunks 32 (length sheet / 32) sheet → i < length sheet / 32
+    → get_or chunks i d ≡ record_bytes sheet i
+record_read sheet chunks i d e h = rw e (chunk-at (length sheet / 32) sheet i d h)
 
 module _ (at : ℕ) (l : List ℕ) (a b c d : ℕ) (ha : a ≡ get_or l at 0) (hb : b ≡ get_or l (at + 1) 0) (hc : c ≡ get_or l (at + 2) 0) (hd : d ≡ get_or l (at + 3) 0) where
   pub number_4 : from_le_bytes w32 (a ∷ b ∷ c ∷ d ∷ []) ≡ number_at at 4 l
@@ -26,3 +35,7 @@ module _ (at : ℕ) (l : List ℕ) (a b c d : ℕ) (ha : a ≡ get_or l at 0) (h
       let low : a + 256 * (b + 256 * (c + 256 * d)) ≡ number_at at 4 l = word_read at l a b c d _ ha hb hc hd refl in
       let high : e + 256 * (f + 256 * (g + 256 * h)) ≡ number_at (at + 4) 4 l = word_read (at + 4) l e f g h _ he (rw p₁ hf) (rw p₂ hg) (rw p₃ hh) refl in
       omega (arith, long-read at l _ _ low high)
+
+pub name_ends : (b : List ℕ) (offset : ℕ) → offset ≡ from_le_bytes w32 (get_or b 4 0 ∷ get_or b 5 0 ∷ get_or b 6 0 ∷ get_or b 7 0 ∷ [])
+    → offset + get_or b 2 0 ≡ name_offset b + name_length b
+name_ends b offset e = ap (λ n. n + get_or b 2 0) (e ∙ number_4 4 b _ _ _ _ refl refl refl refl)

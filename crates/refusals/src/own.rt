@@ -1,12 +1,12 @@
 // Rows 3 to 5: what a record's own bytes are turned down for.
 //
 // Each test comes first that most records pass. No function of another file is called for each record, but for those that are compiled in.
-ghost use Rattle.std.specs.Prelude.{◌≡◌, not, [], ◌/◌, ◌<◌, length};
-ghost use Rattle.rules.specs.Record.{record_bytes, decode, fits_in};
+ghost use Rattle.std.specs.Prelude.{◌≡◌, not, []};
+ghost use Rattle.rules.specs.Record.{decode, fits_in};
 ghost use Rattle.rules.specs.Refusals.{is_unknown, is_too_great, own_fault};
 ghost use Rattle.refusals.specs.Answers.{sub_limit, own_of};
 
-use crate::bytes::{byte, name_end, value};
+use crate::bytes::{name_end, value};
 use rules::{Refusal, Sheet};
 use sheet::kinds;
 
@@ -63,47 +63,43 @@ fn sub_limit(kind: u8) -> Option<u16>
 
 // Row 3: whether kind or sub is unknown, or byte 3 not 0.
 #[tactic(auto, using(crate::proofs::OwnFaults::unknown_none, crate::proofs::OwnFaults::unknown_some))]
-fn is_unknown(sheet: &[u8], i: usize) -> bool
-    requires { i < length sheet.now / 32 }
-    ensures { result ≡ is_unknown (decode [] (record_bytes sheet.now i)) }
+fn is_unknown(bytes: &[u8; Sheet::RECORD]) -> bool
+    ensures { result ≡ is_unknown (decode [] bytes.now) }
 {
-    let Some(limit) = sub_limit(sheet::kind(sheet, i)) else {
+    let Some(limit) = sub_limit(bytes[0]) else {
         return true;
     };
-    !((u16::from(byte(sheet, i, 1)) < limit) & sheet::is_clean(sheet, i))
+    !((u16::from(bytes[1]) < limit) & (bytes[3] == 0))
 }
 
 // Row 4: whether the name part ends beyond the names text.
 #[tactic(auto, using(crate::proofs::OwnFaults::cut_named, crate::proofs::OwnFaults::name_fits))]
-fn is_cut(sheet: &[u8], names: &[u8], i: usize) -> bool
-    requires { i < length sheet.now / 32 }
-    ensures { result ≡ not (fits_in names.now (record_bytes sheet.now i)) }
+fn is_cut(bytes: &[u8; Sheet::RECORD], names: &[u8]) -> bool
+    ensures { result ≡ not (fits_in names.now bytes.now) }
 {
-    (names.len() < name_end(sheet, i)) && kinds::is_named(sheet::kind(sheet, i), byte(sheet, i, 1))
+    (names.len() < name_end(bytes)) && kinds::is_named(bytes[0], bytes[1])
 }
 
 // Row 5: whether the ordinal is over 4294967295.
 #[tactic(auto, using(crate::proofs::OwnFaults::great_read, crate::proofs::OwnFaults::small_read))]
-fn is_too_great(sheet: &[u8], i: usize) -> bool
-    requires { i < length sheet.now / 32 }
-    ensures { result ≡ is_too_great (decode [] (record_bytes sheet.now i)) }
+fn is_too_great(bytes: &[u8; Sheet::RECORD]) -> bool
+    ensures { result ≡ is_too_great (decode [] bytes.now) }
 {
-    (Sheet::MAX_ORDINAL < value(sheet, i)) && sheet::has_ordinal(sheet::kind(sheet, i))
+    (Sheet::MAX_ORDINAL < value(bytes)) && sheet::has_ordinal(bytes[0])
 }
 
-// The fault of record `i` by rows 3 to 5, the lowest number first.
+// The fault of a record by rows 3 to 5, the lowest number first.
 #[tactic(auto, using(crate::proofs::OwnFaults::own_unknown, crate::proofs::OwnFaults::own_cut, crate::proofs::OwnFaults::own_great, crate::proofs::OwnFaults::own_none))]
-pub fn own_fault(sheet: &[u8], names: &[u8], i: usize) -> Result<(), Refusal>
-    requires { i < length sheet.now / 32 }
-    ensures { own_of result ≡ own_fault (decode names.now (record_bytes sheet.now i)) }
+pub fn own_fault(bytes: &[u8; Sheet::RECORD], names: &[u8]) -> Result<(), Refusal>
+    ensures { own_of result ≡ own_fault (decode names.now bytes.now) }
 {
-    if is_unknown(sheet, i) {
+    if is_unknown(bytes) {
         return Err(Refusal::Unknown); // row 3
     }
-    if is_cut(sheet, names, i) {
+    if is_cut(bytes, names) {
         return Err(Refusal::NameRange); // row 4
     }
-    if is_too_great(sheet, i) {
+    if is_too_great(bytes) {
         return Err(Refusal::OrdinalRange); // row 5
     }
     Ok(())

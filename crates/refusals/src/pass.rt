@@ -8,13 +8,13 @@ ghost use Rattle.refusals.specs.Due.{bare};
 ghost use Rattle.refusals.specs.States.{state_of, step_of};
 ghost use Rattle.refusals.specs.Pass.{is_second, or_second, record_step_by, first_fault_by, Ended, passed_of, EndSound};
 
-use crate::bytes::{byte, is_newtype};
+use crate::bytes::{is_newtype, record};
 use crate::due::Due;
 use crate::order::{refused_at, told_at};
 use crate::own::own_fault;
 use crate::runs::run_end;
 use crate::state::State;
-use rules::{Refusal, Refused};
+use rules::{Refusal, Refused, Sheet};
 use sheet::kinds;
 
 // Whether the first declaration of record `i`'s name is another one. A place of the table counts from 1.
@@ -29,18 +29,17 @@ fn is_second(table: &[u16; 5122], i: usize) -> bool
 // Rows 6 to 8 at record `i`. Only a declaration and a head are asked for their sub, and both have one.
 #[tactic(auto, using(crate::proofs::Passes::grammar_fault, crate::proofs::Passes::grammar_second, crate::proofs::Passes::grammar_first))]
 fn grammar_step(
-    sheet: &[u8],
+    bytes: &[u8; Sheet::RECORD],
     table: &[u16; 5122],
     due: &mut Due,
     state: &mut State,
     i: usize,
 ) -> Result<(), Refusal>
-    requires { (i < 1024) × (i < length sheet.now / 32) }
-    ensures { step_of result state.new due.new ≡ or_second (eqb (kind_in (record_bytes sheet.now i)) 1 && is_second table.now i) (Grammar.step (state_of state.old due.old) (bare (kind_in (record_bytes sheet.now i)) (sub_in (record_bytes sheet.now i)))) }
+    requires { i < 1024 }
+    ensures { step_of result state.new due.new ≡ or_second (eqb (kind_in bytes.now) 1 && is_second table.now i) (Grammar.step (state_of state.old due.old) (bare (kind_in bytes.now) (sub_in bytes.now))) }
 {
-    let kind = sheet::kind(sheet, i);
-    let sub = byte(sheet, i, 1);
-    state.step(due, kind, sub)?;
+    let kind = bytes[0];
+    state.step(due, kind, bytes[1])?;
     if (kind == kinds::DECLARATION) && is_second(table, i) {
         return Err(Refusal::SecondDeclaration); // row 8
     }
@@ -60,8 +59,9 @@ fn record_step(
     requires { (i < 1024) × (i < length sheet.now / 32) }
     ensures { step_of result state.new due.new ≡ record_step_by (is_second table.now i) (state_of state.old due.old) (decode names.now (record_bytes sheet.now i)) }
 {
-    own_fault(sheet, names, i)?;
-    grammar_step(sheet, table, due, state, i)
+    let bytes = record(sheet, i);
+    own_fault(bytes, names)?;
+    grammar_step(bytes, table, due, state, i)
 }
 
 // Where the newtypes end that come before record `i` or are record `i`.

@@ -6,7 +6,7 @@ ghost use Rattle.refusals.specs.declared.state.Body.TheVariants.{Context, Messag
 ghost use Rattle.refusals.specs.declared.state.Item.TheVariants.{Typed};
 ghost use Rattle.refusals.specs.Runs.{is_nest, Plain, Ran, at};
 
-use crate::bytes::{byte, name_end};
+use crate::bytes::{name_end, record};
 use crate::due::Due;
 use crate::state::{Body, Item, State};
 use sheet::kinds;
@@ -17,8 +17,8 @@ fn is_plain_name(sheet: &[u8], names: &[u8], kind: u8, i: usize) -> bool
     requires { i < length sheet.now / 32 }
     ensures { result ≡ true → Plain (λ k. eqb k kind) sheet.now names.now i }
 {
-    let clean = byte(sheet, i, 3) == 0;
-    clean & (byte(sheet, i, 0) == kind) & (name_end(sheet, i) <= names.len())
+    let bytes = record(sheet, i);
+    (bytes[3] == 0) & (bytes[0] == kind) & (name_end(bytes) <= names.len())
 }
 
 // Whether record `i` is a type of one part, which is a type, and rows 3 to 5 let it pass: none of these has a name.
@@ -26,8 +26,8 @@ fn is_plain_nest(sheet: &[u8], i: usize) -> bool
     requires { i < length sheet.now / 32 }
     ensures { result ≡ (clean_in (record_bytes sheet.now i) && is_nest (kind_in (record_bytes sheet.now i))) }
 {
-    let clean = byte(sheet, i, 3) == 0;
-    clean & matches!(byte(sheet, i, 0), kinds::OPTIONAL..=kinds::SET)
+    let bytes = record(sheet, i);
+    (bytes[3] == 0) & matches!(bytes[0], kinds::OPTIONAL..=kinds::SET)
 }
 
 // The first record from `i` up to `n` that is not plain.
