@@ -1,4 +1,4 @@
--- Row 9 takes the newtypes in turn, and asks the table for the type behind a type.
+-- Row 9 takes the newtypes in turn.
 use Prim.Native.Nat.{ℕ, zero, suc, ◌+◌, ◌-◌, ◌/◌, ◌<◌, ◌≤◌}
 use native.Mathlib.Decide.{dec_lt}
 use native.Mathlib.Omega.{arith}
@@ -32,42 +32,6 @@ view-end sheet a e h = let none : e - a ≡ 0 = omega arith in rw none
 module _ (table sheet : List ℕ) where
   abbrev ctx : ValidationContext ℕ Span
   ctx = context_by table sheet
-
-  abbrev behind_of : Option (Declared ℕ Span) → Bool → Option (Rec ℕ Span)
-  behind_of o b = elim b [ true ↦ elim o [ none ↦ none | some d ↦ d.inner ] | false ↦ none ]
-
-  -- a name that is not declared
-  declared-none : (t : ℕ) → entry_of declaration_part table t ≡ 0 → declared_by table sheet t ≡ none
-  unfolding declared_by
-  declared-none t z = rw (z, declared_by)
-
-  module _ (t k : ℕ) (hk : k ≡ kind_in (record_bytes sheet t)) where
-    behind-as : (b : Bool) → eqb k 33 ≡ b → behind ctx (view_at sheet t) ≡ behind_of (declared_by table sheet t) b
-    unfolding behind context_by view_at
-    behind-as b e = ap (behind_of (declared_by table sheet t)) (ap (λ (x : ℕ). eqb x 33) (sym hk) ∙ e)
-
-    pub behind_other : (k ≡ 33 → ⊥) → none ≡ behind ctx (view_at sheet t)
-    behind_other n = sym (behind-as false (ne_eqb k 33 n))
-
-    module _ (named : k ≡ 33) (d : ℕ) (hd : d ≡ entry_of declaration_part table t) where
-      pub behind_undeclared : d ≡ 0 → none ≡ behind ctx (view_at sheet t)
-      behind_undeclared z = sym (behind-as true (eq-eqb k 33 named) ∙ ap (λ (o : Option (Declared ℕ Span)). behind_of o true) (declared-none t (sym hd ∙ z)))
-
-      behind-inner : (e : ℕ) → entry_of declaration_part table t ≡ e → (e ≡ 0 → ⊥)
-          → behind_of (declared_by table sheet t) true ≡ elim (entry_of target_part table t) [ zero ↦ none | suc i ↦ some (view_at sheet i) ]
-      unfolding declared_by
-      behind-inner zero e n = absurd (n refl)
-      behind-inner (suc m) e n = rw (e, declared_by)
-
-      behind_at : (r : ℕ) → (d ≡ 0 → ⊥) → r ≡ entry_of target_part table t → elim r [ zero ↦ none | suc i ↦ some (view_at sheet i) ] ≡ behind ctx (view_at sheet t)
-      behind_at r n hr = rw hr (sym (behind-as true (eq-eqb k 33 named) ∙ behind-inner d (sym hd) n))
-
-      pub behind_over : (r : ℕ) → (d ≡ 0 → ⊥) → r ≡ entry_of target_part table t → r ≡ 0 → none ≡ behind ctx (view_at sheet t)
-      behind_over r n hr z = rw z at (behind_at r n hr)
-
-      pub behind_target : (r : ℕ) → (d ≡ 0 → ⊥) → r ≡ entry_of target_part table t → (r ≡ 0 → ⊥) → some (view_at sheet (r - 1)) ≡ behind ctx (view_at sheet t)
-      behind_target zero n hr z = absurd (z refl)
-      behind_target (suc i) n hr z = let back : suc i - 1 ≡ i = omega arith in rw back (behind_at (suc i) n hr)
 
   -- a newtype whose chain never ends
   module _ (i n : ℕ) (newtype : Bool) (hn : newtype ≡ is_of 1 4 (view_at sheet i)) where

@@ -1,8 +1,7 @@
 -- The ends of chains of named newtypes, as row 9 finds them.
-use Rattle.std.specs.Prelude as std
-use Rattle.std.specs.Prelude.{ℕ, ◌≡◌, true, List}
+use Rattle.std.specs.Prelude.{ℕ, ◌≡◌, List}
 use Rattle.std.proofs.Math.Option.{none}
-use Rattle.rules.specs.Context.{behind, chain_end, never_ends}
+use Rattle.rules.specs.Context.{behind, chain_end}
 use Rattle.names.specs.View.{view_at, declarations_of, context_by}
 use Rattle.names.specs.SameEnds.{SameEnds, Lasting}
 
@@ -10,11 +9,6 @@ use Rattle.names.specs.SameEnds.{SameEnds, Lasting}
 pub record EndsAt (table sheet : List ℕ) (t e : ℕ) : Type 0 where
   pub end : chain_end (context_by table sheet) (declarations_of table) (view_at sheet t) ≡ view_at sheet e
   pub over : behind (context_by table sheet) (view_at sheet e) ≡ none
-
--- the record of that type, if the chain ends
-abbrev pub EndFound : List ℕ → List ℕ → ℕ → std.Option ℕ → Type 0
-EndFound table sheet t std.None = never_ends (context_by table sheet) (view_at sheet t) ≡ true
-EndFound table sheet t (std.Some e) = EndsAt table sheet t e
 
 -- the table leads to the same ends as before, and a chain that has not ended never does
 pub record Kept (sheet before after : List ℕ) : Type 0 where

@@ -1,18 +1,11 @@
 -- Why a sheet and a names text are turned down, by a table of any content: rows 8 and 9 ask the table what is declared.
-use Rattle.std.specs.Prelude as std
 use Rattle.std.specs.Prelude.{ℕ, ◌/◌, true, false, List, length}
 use Rattle.std.proofs.Math.Option.{Option, some, none}
-use Rattle.rules.specs.declared.span.Span.{Span}
-use Rattle.rules.specs.Record.{Rec, record_size, records}
+use Rattle.rules.specs.Record.{record_size, records}
 use Rattle.rules.specs.Grammar.{start}
 use Rattle.rules.specs.Refusals.{Fault, is_wrong_length, is_long_names, endless_chain}
-use Rattle.names.specs.View.{view_at, view_of, context_by}
+use Rattle.names.specs.View.{view_of, context_by}
 use Rattle.refusals.specs.Pass.{is_second, first_fault_by}
-
--- the record at an index, if there is one
-abbrev pub record_of : List ℕ → std.Option ℕ → Option (Rec ℕ Span)
-record_of sheet std.None = none
-record_of sheet (std.Some i) = some (view_at sheet i)
 
 -- row 9
 unfoldable pub endless_by : List ℕ → List ℕ → Option Fault

@@ -1,100 +1,62 @@
 // Row 9: a newtype whose chain of named newtypes never ends.
 //
 // A chain is walked to its end. If it ends, it is walked once more, and the table leads from each type on its way to the end at once. So each newtype's
-// inner type is passed twice at most before it leads to its end, all chains that end take together at most five calls of `behind` for each newtype,
+// inner type is passed twice at most before it leads to its end, all chains that end take together at most six calls of `behind` for each newtype,
 // and the first that never ends takes one call more than there are declarations. That is linear in the declarations, and so are the keys that are
 // judged by the table afterwards: none of them is more than two steps from its end. No function here calls itself.
-ghost use Rattle.std.specs.Prelude.{◌≡◌, ◌&&◌, ◌+◌, ◌/◌, ◌≤◌, ◌<◌, length, IfSome};
+ghost use Rattle.std.specs.Prelude.{◌≡◌, ◌&&◌, ◌+◌, ◌/◌, ◌≤◌, ◌<◌, length};
 ghost use Rattle.rules.specs.Record.{is_of};
 ghost use Rattle.rules.specs.Context as Context;
 ghost use Rattle.rules.specs.Refusals.{leads_nowhere};
 ghost use Rattle.names.specs.View.{view_at, view_of, context_by};
 ghost use Rattle.names.specs.SameEnds.{SameEnds, Lasting};
 ghost use Rattle.refusals.specs.Pass.{Ended, verdict_of};
-ghost use Rattle.refusals.specs.Turned.{record_of, endless_by};
-ghost use Rattle.refusals.specs.Ends.{EndsAt, EndFound, Kept};
+ghost use Rattle.refusals.specs.Turned.{endless_by};
+ghost use Rattle.refusals.specs.Ends.{EndsAt, Kept};
 
 use crate::bytes::is_newtype;
 use crate::order::refused_at;
+use names::{NameTable, ValidationContext};
 use rules::{Refusal, Refused};
-use sheet::kinds;
-
-// The record of the type behind the type at record `t`, if the chain goes on.
-#[tactic(auto, using(crate::proofs::ChainWalk::behind_other, crate::proofs::ChainWalk::behind_undeclared, crate::proofs::ChainWalk::behind_over, crate::proofs::ChainWalk::behind_target))]
-fn behind(sheet: &[u8], table: &[u16; 5122], t: usize) -> Option<usize>
-    ensures record { record_of sheet.now result ≡ Context.behind (context_by table.now sheet.now) (view_at sheet.now t) }
-    ensures small { IfSome result (λ i. i < 65535) }
-{
-    if sheet::kind(sheet, t) != kinds::NAMED {
-        return None;
-    }
-    // The context's methods answer an Option, and do not say that a place fits 16 bits, which `set_target` needs.
-    if names::declaration(table, t) == 0 {
-        return None;
-    }
-    match names::target(table, t) {
-        0 => None,
-        place => Some(usize::from(place) - 1),
-    }
-}
-
-// The record of the end of the chain from the type at record `t` on, if the chain ends.
-#[tactic(auto, using(crate::proofs::ChainEnds::walk_starts, crate::proofs::ChainEnds::walk_ends, crate::proofs::ChainEnds::walk_again, crate::proofs::ChainEnds::walk_never))]
-fn chain_end(sheet: &[u8], table: &[u16; 5122], t: usize) -> Option<usize>
-    requires { t < 65535 }
-    ensures end { EndFound table.now sheet.now t result }
-    ensures small { IfSome result (λ i. i < 65535) }
-{
-    let mut at = t;
-    for _ in 0..names::declarations(table) {
-        let Some(next) = behind(sheet, table, at) else {
-            return Some(at);
-        };
-        at = next;
-    }
-    match behind(sheet, table, at) {
-        None => Some(at),
-        Some(_) => None,
-    }
-}
 
 // Has the table lead to the end from the type at record `t` and from those behind it, up to the first that leads there already.
 #[tactic(auto, using(crate::proofs::ChainEnds::kept_itself))]
-fn shorten(sheet: &[u8], table: &mut [u16; 5122], t: usize, end: usize)
+fn shorten(sheet: &[u8], table: &mut NameTable, t: usize, end: usize)
     requires { Lasting (context_by table.old sheet.now) × (end < 65535) × EndsAt table.old sheet.now t end }
     ensures { Kept sheet.now table.old table.new }
 {
     let mut at = t;
-    for _ in 0..names::declarations(table) {
-        let Some(next) = behind(sheet, table, at) else {
+    for _ in 0..table.declarations() {
+        let context = ValidationContext { sheet, table };
+        let Some(next) = context.behind(at) else {
             return;
         };
         if next == end {
             return;
         }
-        names::set_target(table, at, (end + 1) as u16);
+        table.set_target(at, (end + 1) as u16);
         at = next;
     }
 }
 
 // Whether the chain from the type at record `t` on never ends; if it ends, the table is shortened on its way.
-#[tactic(auto, using(crate::proofs::ChainEnds::end_found, crate::proofs::ChainEnds::ended, crate::proofs::ChainEnds::endless_told, crate::proofs::ChainEnds::kept_itself))]
-fn never_ends(sheet: &[u8], table: &mut [u16; 5122], t: usize) -> bool
+#[tactic(auto, using(crate::proofs::ChainEnds::end_found, crate::proofs::ChainEnds::end_told, crate::proofs::ChainEnds::kept_itself))]
+fn never_ends(sheet: &[u8], table: &mut NameTable, t: usize) -> bool
     requires { Lasting (context_by table.old sheet.now) × (t < 65535) }
     ensures { (result ≡ Context.never_ends (context_by table.old sheet.now) (view_at sheet.now t)) × Kept sheet.now table.old table.new }
 {
-    match chain_end(sheet, table, t) {
-        None => true,
-        Some(end) => {
-            shorten(sheet, table, t, end);
-            false
-        }
+    let context = ValidationContext { sheet, table };
+    let end = context.chain_end(t);
+    if context.behind(end).is_some() {
+        return true;
     }
+    shorten(sheet, table, t, end);
+    false
 }
 
 // Whether record `i` of `n` is a newtype whose chain never ends.
 #[tactic(auto, using(crate::proofs::ChainWalk::other_ends, crate::proofs::ChainWalk::last_ends, crate::proofs::ChainWalk::newtype_walked, crate::proofs::ChainEnds::kept_itself))]
-fn is_endless(sheet: &[u8], table: &mut [u16; 5122], i: usize, n: usize) -> bool
+fn is_endless(sheet: &[u8], table: &mut NameTable, i: usize, n: usize) -> bool
     requires { Lasting (context_by table.old sheet.now) × (i < n) × (n ≤ 1024) }
     ensures { (result ≡ (is_of 1 4 (view_at sheet.now i) && leads_nowhere (context_by table.old sheet.now) (view_of sheet.now (i + 1) n))) × Kept sheet.now table.old table.new }
 {
@@ -102,7 +64,7 @@ fn is_endless(sheet: &[u8], table: &mut [u16; 5122], i: usize, n: usize) -> bool
 }
 
 // The first newtype whose chain never ends. The newtypes end at `end`.
-pub fn endless(sheet: &[u8], table: &mut [u16; 5122], end: usize) -> Result<(), Refused>
+pub fn endless(sheet: &[u8], table: &mut NameTable, end: usize) -> Result<(), Refused>
     requires { (length sheet.now ≤ 32768) × Ended sheet.now end (length sheet.now / 32) × Lasting (context_by table.old sheet.now) }
     ensures { (verdict_of result ≡ endless_by table.old sheet.now) × SameEnds (context_by table.old sheet.now) (context_by table.new sheet.now) }
 {

@@ -14,23 +14,24 @@ use crate::order::{refused_at, told_at};
 use crate::own::own_fault;
 use crate::runs::run_end;
 use crate::state::State;
+use names::NameTable;
 use rules::{Refusal, Refused, Sheet};
 use sheet::kinds;
 
-// Whether the first declaration of record `i`'s name is another one. A place of the table counts from 1.
+// Whether the first declaration of record `i`'s name is another one.
 #[tactic(auto, using(crate::proofs::Passes::second_read))]
-fn is_second(table: &[u16; 5122], i: usize) -> bool
+fn is_second(table: &NameTable, i: usize) -> bool
     requires { i < 1024 }
     ensures { result ≡ is_second table.now i }
 {
-    usize::from(names::declaration(table, i)) != i + 1
+    table.declaration(i) != Some(i)
 }
 
 // Rows 6 to 8 at record `i`. Only a declaration and a head are asked for their sub, and both have one.
 #[tactic(auto, using(crate::proofs::Passes::grammar_fault, crate::proofs::Passes::grammar_second, crate::proofs::Passes::grammar_first))]
 fn grammar_step(
     bytes: &[u8; Sheet::RECORD],
-    table: &[u16; 5122],
+    table: &NameTable,
     due: &mut Due,
     state: &mut State,
     i: usize,
@@ -51,7 +52,7 @@ fn grammar_step(
 fn record_step(
     sheet: &[u8],
     names: &[u8],
-    table: &[u16; 5122],
+    table: &NameTable,
     due: &mut Due,
     state: &mut State,
     i: usize,
@@ -80,7 +81,7 @@ fn newtypes_end(sheet: &[u8], end: usize, i: usize) -> usize
 //
 // It is not compiled into its caller, whose other values would take the registers of a step.
 #[inline(never)]
-pub fn first_fault(sheet: &[u8], names: &[u8], table: &[u16; 5122]) -> Result<usize, Refused>
+pub fn first_fault(sheet: &[u8], names: &[u8], table: &NameTable) -> Result<usize, Refused>
     requires { length sheet.now ≤ 32768 }
     ensures { (passed_of result ≡ first_fault_by (is_second table.now) Grammar.start 0 (records sheet.now names.now)) × EndSound result sheet.now }
 {

@@ -10,10 +10,11 @@ ghost use Rattle.refusals.specs.Turned.{refusal_by};
 use crate::chain::endless;
 use crate::order::refused_at;
 use crate::pass::first_fault;
+use names::NameTable;
 use rules::{Refusal, Refused, Sheet};
 
 // Why the sheet and the names text are turned down, if they are; the table says what is declared. Row 9 has it lead to the ends of chains.
-fn refuse(sheet: &[u8], names: &[u8], table: &mut [u16; 5122]) -> Result<(), Refused>
+fn refuse(sheet: &[u8], names: &[u8], table: &mut NameTable) -> Result<(), Refused>
     requires { table.old ≡ name_table sheet.now names.now }
     ensures { (verdict_of result ≡ refusal_by table.old sheet.now names.now) × SameEnds (context_by table.old sheet.now) (context_by table.new sheet.now) }
 {
@@ -30,7 +31,7 @@ fn refuse(sheet: &[u8], names: &[u8], table: &mut [u16; 5122]) -> Result<(), Ref
 // Whether the sheet and the names text are accepted, and if not, by which row at which record. The table of names is filled in any case, and may lead
 // from a type to the end of its chain at once.
 #[tactic(auto, using(crate::proofs::RefusalFilled::told_by_filled, crate::proofs::RefusalFilled::ends_by_filled))]
-pub fn accept(sheet: &[u8], names: &[u8], table: &mut [u16; 5122]) -> Result<(), Refused>
+pub fn accept(sheet: &[u8], names: &[u8], table: &mut NameTable) -> Result<(), Refused>
     ensures { (verdict_of result ≡ refusal sheet.now names.now) × SameEnds (context_by (name_table sheet.now names.now) sheet.now) (context_by table.new sheet.now) }
 {
     names::fill(sheet, names, table);

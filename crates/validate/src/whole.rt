@@ -3,7 +3,7 @@ ghost use Rattle.rules.specs.Answer.{values_of};
 ghost use Rattle.validate.specs.Answered.{Answered};
 
 use diagnostic::Violations;
-use names::ValidationContext;
+use names::{NameTable, ValidationContext};
 use rules::Answer;
 
 // Answers for a sheet and a names text, and lists the violations.
@@ -11,7 +11,7 @@ use rules::Answer;
 pub fn check(sheet: &[u8], names: &[u8], list: &mut [u8]) -> Answer
     ensures { Answered sheet.now names.now list.old (values_of result) list.new }
 {
-    let mut table = [0; 5122];
+    let mut table = NameTable::new();
     refusals::accept(sheet, names, &mut table)?;
     let context = ValidationContext {
         sheet,
