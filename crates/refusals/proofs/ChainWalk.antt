@@ -8,13 +8,11 @@ use mathlib.Core.Bool.{Bool, true, false, ◌&&◌}
 use mathlib.Core.List.{List, [], ◌∷◌}
 use mathlib.Core.Option.{Option, some, none}
 use lib.ListN.{length}
-use lib.Dec.{eqb}
-use borrow.Author.Tests.{ne_eqb, eq-eqb}
 use Rattle.rules.specs.declared.span.Span.{Span}
-use Rattle.rules.specs.Record.{Rec, is_of, record_bytes, kind_in}
-use Rattle.rules.specs.Context.{Declared, ValidationContext, behind, never_ends}
+use Rattle.rules.specs.Record.{is_of}
+use Rattle.rules.specs.Context.{ValidationContext, never_ends}
 use Rattle.rules.specs.Refusals.{Fault, leads_nowhere, endless_chain}
-use Rattle.names.specs.View.{view_at, view_from, view_of, entry_of, declaration_part, target_part, declared_by, context_by}
+use Rattle.names.specs.View.{view_at, view_from, view_of, context_by}
 use Rattle.refusals.specs.Pass.{Ended}
 use Rattle.refusals.specs.Turned.{endless_by}
 

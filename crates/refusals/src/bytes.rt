@@ -6,7 +6,8 @@ ghost use Rattle.names.specs.View.{view_at};
 use rules::Sheet;
 use sheet::{kinds, subs};
 
-// The bytes of record `i`.
+// The bytes of record `i`, without a test of where the sheet ends. A function that another crate can name asks nothing of its callers, so that this is no
+// function of `sheet`, whose own reading tests it.
 #[tactic(auto, using(crate::proofs::RecordBytes::record_read))]
 pub fn record(sheet: &[u8], i: usize) -> &[u8; Sheet::RECORD]
     requires { i < length sheet.now / 32 }

@@ -13,8 +13,8 @@ use std::marker::Model;
 // The greatest depth, as an entry has it.
 const MAX_DEPTH: u8 = Sheet::MAX_DEPTH as u8;
 
-// So many entries hold all parts that are due: no part is ever due at more than one below the greatest depth, and each entry is deeper than the number
-// of those below it.
+// So many entries hold all parts that are due: none is ever due deeper than one past the greatest depth, and each is deeper than the number of those
+// below it.
 const ENTRIES: usize = Sheet::MAX_DEPTH + 2;
 
 #[derive(Clone, Copy)]
@@ -31,7 +31,8 @@ pub struct Entry {
     pub part: Part,
 }
 
-// The parts that are due: the first `height` entries, the last of them first.
+// The parts that are due: the first `height` entries, the last of them first. It is no `ArrayVec` of the kit, since the library for C stands on no crate
+// of the kit but `std` (docs/DECISIONS.md).
 #[derive(Drop)]
 pub struct Due {
     entries: [Entry; ENTRIES],

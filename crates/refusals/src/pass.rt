@@ -1,6 +1,7 @@
 // The pass over the records: the first fault by rows 3 to 8.
 //
-// The sheet and the names text are two slices side by side, since most functions read the sheet alone, and contracts name it alone.
+// The sheet, the names text and the table stand side by side, as `accept` is asked with them: below `record_step` no function takes more than two of
+// the three, so that a struct of them would be taken apart there.
 ghost use Rattle.std.specs.Prelude.{◌≡◌, ◌&&◌, ◌+◌, ◌/◌, ◌<◌, ◌≤◌, length, eqb};
 ghost use Rattle.rules.specs.Record.{record_bytes, decode, kind_in, sub_in, records};
 ghost use Rattle.rules.specs.Grammar as Grammar;
