@@ -1,5 +1,7 @@
-// Where the grammar stands, beside the parts that are due.
+// Where the grammar stands.
 ghost use Rattle.std.specs.Prelude.{◌≡◌};
+
+use crate::due::Due;
 
 // Which body, and where in it.
 #[derive(Clone, Copy, PartialEq, Eq)]
@@ -30,7 +32,14 @@ pub enum Item {
 }
 
 #[derive(Clone, Copy)]
-pub struct State {
+pub struct Place {
     pub body: Body,
     pub item: Item,
+}
+
+// A place, and the parts that are due there.
+#[derive(Drop)]
+pub struct State {
+    pub place: Place,
+    pub due: Due,
 }
