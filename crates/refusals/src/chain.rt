@@ -34,7 +34,7 @@ fn shorten(sheet: &[u8], table: &mut NameTable, t: usize, end: usize)
         if next == end {
             return;
         }
-        table.set_target(at, (end + 1) as u16);
+        table.set_target(at, (end + 1) as u16); // a place counts from 1
         at = next;
     }
 }

@@ -58,7 +58,7 @@ fn nests_end(sheet: &[u8], names: &[u8], due: &mut Due, i: usize) -> usize
     }
     let limit = sheet::records(sheet).min(i + usize::from(room));
     let end = plain_end(i, limit, |j| is_plain_nest(sheet, j));
-    due.deepen((end - i) as u8);
+    due.deepen((end - i) as u8); // not more than `room`
     end
 }
 

@@ -31,6 +31,8 @@ pub enum Item {
     Conditioned,
 }
 
+// The item counts in a body that has fields or a type, which are four of the eight; the others stand between items. A case of each body with its item
+// would have each step of a field list and of a type, which goes by the item alone, written out for each of two bodies.
 #[derive(Clone, Copy)]
 pub struct Place {
     pub body: Body,
