@@ -1,4 +1,3 @@
-pub mod Collection
 pub mod Due
 pub mod Key
 pub mod Own

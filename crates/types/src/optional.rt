@@ -5,11 +5,10 @@ ghost use Rattle.rules.specs.Kind;
 ghost use Rattle.rules.specs.Record.{is};
 ghost use Rattle.rules.specs.Types.{is_numeric_type, is_collection_type};
 ghost use Rattle.names.specs.View.{view_of};
-ghost use Rattle.types.specs.Collection.{is_bare_collection};
 
-use crate::valid::is_delta_valid_type;
+use crate::valid::{is_delta_valid_type, is_text};
 use rules::RecordRange;
-use sheet::{kinds, subs};
+use sheet::kinds;
 
 // The records from the first that is no optional on.
 fn behind_optionals(sheet: &[u8], ty: RecordRange) -> RecordRange
@@ -28,19 +27,12 @@ pub fn is_numeric_type(sheet: &[u8], ty: RecordRange) -> bool
     is_delta_valid_type(sheet, behind_optionals(sheet, ty))
 }
 
-// Whether the first record is string, bytes, array or fixed array.
-fn is_bare_collection(sheet: &[u8], ty: RecordRange) -> bool
-    ensures { result ≡ is_bare_collection (view_of sheet.now ty.start ty.end) }
-{
-    ty.first().is_some_and(|i| match sheet::kind(sheet, i) {
-        kinds::SEMANTIC => matches!(sheet::sub(sheet, i), subs::STRING | subs::BYTES),
-        kind => matches!(kind, kinds::ARRAY | kinds::FIXED_ARRAY),
-    })
-}
-
 // Whether the type has a length, behind its optionals (rule 30): string, bytes, array, fixed array.
 pub fn is_collection_type(sheet: &[u8], ty: RecordRange) -> bool
     ensures { result ≡ is_collection_type (view_of sheet.now ty.start ty.end) }
 {
-    is_bare_collection(sheet, behind_optionals(sheet, ty))
+    let bare = behind_optionals(sheet, ty);
+    bare.first().is_some_and(|i| {
+        is_text(sheet, i) | matches!(sheet::kind(sheet, i), kinds::ARRAY | kinds::FIXED_ARRAY)
+    })
 }

@@ -1,9 +1,8 @@
--- The test of the first record is the definition's.
+-- The subs that pass are the definition's.
 use Rattle.std.proofs.Common.{rules}
-use Rattle.names.specs.View.{view_at}
-use Rattle.types.proofs.Views.{first_says}
+use Rattle.rules.specs.Words.{within}
+use Rattle.rules.specs.Sub
 use Rattle.types.proofs.valid.is_zigzag_valid_type.Goals as goal
 
 pub returns : goal.returns
-unfolding view_at
-returns c = first_says _ c.args.ty _ c.is_some_and.result (search rules)
+returns c = c.is_primitive.ensures (λ sub. within Sub.I16 Sub.I64 sub) (λ sub r h. search rules)

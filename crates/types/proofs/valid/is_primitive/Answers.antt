@@ -2,8 +2,8 @@
 use Rattle.std.proofs.Common.{rules}
 use Rattle.names.specs.View.{view_at}
 use Rattle.types.proofs.Views.{first_says}
-use Rattle.types.proofs.optional.is_bare_collection.Goals as goal
+use Rattle.types.proofs.valid.is_primitive.Goals as goal
 
 pub returns : goal.returns
 unfolding view_at
-returns c = first_says _ c.args.ty _ c.is_some_and.result (search rules)
+returns g c = λ p h. first_says _ c.args.ty _ c.is_some_and.result (search rules)
