@@ -7,7 +7,6 @@ use Rattle.rules.specs.Types.{is_numeric_type}
 use Rattle.rules.specs.Conditions.{literals_of}
 use Rattle.names.specs.View.{view_at, view_of}
 use Rattle.types.proofs.Views.{view-cons, view-none}
-use Rattle.conditions.specs.Taken.{int_alone}
 
 -- a range has no first record where it is empty, and else the one that it starts with
 module _ (range : RecordRange) (first : Option ℕ) (is : first ≡ first_of range) where
@@ -26,7 +25,8 @@ module _ (range : RecordRange) (first : Option ℕ) (is : first ≡ first_of ran
       by_test false t = let there = rw (t, first_of) at is in (cc, leb-false _ _ t)
 
 module _ (sheet : List ℕ) (ty : RecordRange) (int : Bool) (h : int ≡ is_numeric_type (view_of sheet ty.start ty.end)) where
-  pub literals_none : (first : Option ℕ) → first ≡ first_of ty → first ≡ None → int_alone int ≡ literals_of (view_of sheet ty.start ty.end)
+  pub literals_none : (first : Option ℕ) → first ≡ first_of ty → first ≡ None →
+      record { int = int; float = false; string = false; bool = false } ≡ literals_of (view_of sheet ty.start ty.end)
   literals_none first is none = rw (h, view-none sheet ty.start ty.end (first_none ty first is none))
 
   pub literals_first :

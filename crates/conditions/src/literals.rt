@@ -2,30 +2,18 @@
 ghost use Rattle.std.specs.Prelude.{◌≡◌};
 ghost use Rattle.rules.specs.Conditions.{length_literals, literals_of};
 ghost use Rattle.names.specs.View.{view_of};
-ghost use Rattle.conditions.specs.Taken.{taken, int_alone};
+ghost use Rattle.conditions.specs.Taken.{taken};
 
 use rules::RecordRange;
 use sheet::{kinds, subs};
 
-// Whether a type takes each kind of literal.
-#[derive(Clone, Copy)]
+// Whether a type takes each kind of literal; by default, none.
+#[derive(Clone, Copy, Default)]
 pub struct Literals {
     pub int: bool,
     pub float: bool,
     pub string: bool,
     pub boolean: bool,
-}
-
-// The literals of a type that takes Int or not, and no other.
-fn int_alone(int: bool) -> Literals
-    ensures { taken result ≡ int_alone int }
-{
-    Literals {
-        int,
-        float: false,
-        string: false,
-        boolean: false,
-    }
 }
 
 // The literals of the type: Int behind its optionals, the others by its first record.
@@ -34,7 +22,10 @@ pub fn literals_of(sheet: &[u8], ty: RecordRange) -> Literals
 {
     let int = types::is_numeric_type(sheet, ty);
     let Some(first) = ty.first() else {
-        return int_alone(int);
+        return Literals {
+            int,
+            ..Literals::default()
+        };
     };
     let kind = sheet::kind(sheet, first);
     let sub = sheet::sub(sheet, first);
@@ -50,5 +41,8 @@ pub fn literals_of(sheet: &[u8], ty: RecordRange) -> Literals
 pub fn length_literals() -> Literals
     ensures { taken result ≡ length_literals }
 {
-    int_alone(true)
+    Literals {
+        int: true,
+        ..Literals::default()
+    }
 }

@@ -65,7 +65,8 @@ fn validate_len(
     validate_where_operands(context, violations, node, length_literals());
 }
 
-// Adds what rules 23 to 30 find at the condition itself, on a field that takes those literals and is a collection or not.
+// Adds what rules 23 to 30 find at the condition itself, on a field that takes those literals and is a collection or not. The two go together through this
+// call alone: a comparison and a range take the one, a length the other.
 pub fn validate_node(
     context: ValidationContext,
     violations: &mut Violations,

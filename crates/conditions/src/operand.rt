@@ -13,15 +13,6 @@ use names::ValidationContext;
 use rules::Violation;
 use sheet::{kinds, subs};
 
-// The subs of an operand, which are numbers as all subs are.
-const INT: u8 = 0;
-
-const FLOAT: u8 = 1;
-
-const STRING: u8 = 2;
-
-const BOOL: u8 = 3;
-
 // Whether the name of record `i` is a declared constant's, or imported.
 #[tactic(auto, unfolding(names::specs::View::context_by))]
 fn is_known_const(context: ValidationContext, i: usize) -> bool
@@ -36,10 +27,10 @@ fn is_mismatch(sub: u8, literals: Literals) -> bool
     ensures { result ≡ mismatches (taken literals) sub }
 {
     match sub {
-        INT => !literals.int,
-        FLOAT => !literals.float,
-        STRING => !literals.string,
-        BOOL => !literals.boolean,
+        subs::INT_OPERAND => !literals.int,
+        subs::FLOAT_OPERAND => !literals.float,
+        subs::STRING_OPERAND => !literals.string,
+        subs::BOOL_OPERAND => !literals.boolean,
         _ => false,
     }
 }
@@ -57,7 +48,7 @@ pub fn validate_where_operand(
         return;
     }
     let sub = sheet::sub(context.sheet, i);
-    if sub == kinds::CONST_REF {
+    if sub == subs::CONST_REF {
         // rule 27
         let known = is_known_const(context, i);
         violations.error_if(

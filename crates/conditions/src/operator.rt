@@ -5,12 +5,7 @@ ghost use Rattle.conditions.specs.Parts.{operator_violations};
 
 use diagnostic::Violations;
 use rules::Violation;
-use sheet::kinds;
-
-// The subs of the first and the last of the operators that order, Lt, Gt, Le and Ge: they stay numbers, since a range of them is asked for.
-const LT: u8 = 2;
-
-const GE: u8 = 5;
+use sheet::{kinds, subs};
 
 // Adds what rule 28 finds at record `i`, if it is a comparison, on a field that is numeric or not.
 pub fn validate_cmp_operator(sheet: &[u8], violations: &mut Violations, i: usize, numeric: bool)
@@ -18,7 +13,7 @@ pub fn validate_cmp_operator(sheet: &[u8], violations: &mut Violations, i: usize
 {
     // rule 28
     let sub = sheet::sub(sheet, i);
-    let orders = (LT <= sub) & (sub <= GE);
+    let orders = (subs::LT <= sub) & (sub <= subs::GE);
     let bad = (sheet::kind(sheet, i) == kinds::CMP) & orders & !numeric;
     violations.error_if(bad, sheet, i, Violation::WhereClauseOperatorInvalid);
 }
