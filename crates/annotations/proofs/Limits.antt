@@ -3,27 +3,19 @@ use Prim.Native.Nat.{ℕ}
 use mathlib.Core.Path.{◌≡◌}
 use mathlib.Core.Bool.{Bool, true, false, ◌&&◌}
 use mathlib.Core.List.{List, flat_map}
-use native.Mathlib.Omega.{arith}
-use lib.Dec.{eqb, leb, ltb}
-use borrow.Author.Tests.{le-leb}
+use lib.Dec.{eqb, ltb}
 use Rattle.rules.specs.declared.span.Span.{Span}
-use Rattle.rules.specs.Record.{Rec, sub_in, span_in, value_in, record_bytes}
+use Rattle.rules.specs.Record.{Rec, span_in, value_in, record_bytes}
 use Rattle.rules.specs.Rule.{Found, rule_row}
 use Rattle.rules.specs.Types.{is_limit_capped_type}
 use Rattle.rules.specs.Annotations.{max_limit, limit_value_violations}
-use Rattle.names.specs.View.{view_at, view_of, context_by, entry_of, code_part}
+use Rattle.names.specs.View.{view_at, view_of, context_by}
 use Rattle.diagnostic.specs.declared.violations.Violations.{Violations}
 use Rattle.diagnostic.specs.Push.{push_if}
 use Rattle.diagnostic.specs.Violations.{state_of, Adds}
 use Rattle.diagnostic.proofs.Added.{adds_none, adds_then, adds_if}
 use Rattle.annotations.specs.AnnotationAt.{annotation_at, is_number_at}
 use Rattle.annotations.specs.LimitViolations.{limit_violations}
-
-pub number_is :
-    (table sheet : List ℕ) (j sub : ℕ) → sub ≡ sub_in (record_bytes sheet j) →
-    eqb (entry_of code_part table j) 8 && leb sub 1 ≡ is_number_at table sheet j
-unfolding is_number_at context_by view_at
-number_is table sheet j sub hs = rw (hs, le-leb 0 (sub_in (record_bytes sheet j)) (omega arith))
 
 module _ (table sheet : List ℕ) (i a z j : ℕ) (number : Bool) (hn : number ≡ is_number_at table sheet j) where
   -- what rules 18 and 19 find at record j

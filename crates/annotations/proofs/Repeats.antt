@@ -20,7 +20,7 @@ use Rattle.diagnostic.proofs.Added.{adds_if}
 use Rattle.annotations.specs.AnnotationAt.{annotation_at}
 use Rattle.annotations.specs.Slots.{has_key}
 use Rattle.annotations.specs.Met.{Row, is_met}
-use Rattle.annotations.specs.Earlier.{is_annotation, earlier_of, earlier, is_compared_at, repeats_at}
+use Rattle.annotations.specs.Earlier.{is_annotation, earlier_of, earlier, is_compared_at, repeats_at, annotations_row}
 use Rattle.annotations.proofs.Views.{annotations-next, annotations-other, annotations-none}
 use Rattle.annotations.proofs.WordCodes.{word-is}
 use Rattle.types.proofs.Left.{Leaves, leaves_rest, leaves_none}
@@ -67,6 +67,16 @@ pub among_again :
     (table sheet : List ℕ) (a i id : ℕ) (r : Bool) → id ≡ entry_of id_part table i →
     r ≡ has_key (is_annotation sheet) (entry_of id_part table) a id (i - a) → r ≡ any_of ((context_by table sheet).same i) (earlier sheet a i)
 among_again table sheet a i id r hi h = h ∙ rw hi (slotted_same table sheet a i (i - a))
+
+-- what is told of record i, if it is compared, is whether it repeats an annotation
+pub met-repeats :
+    (table sheet : List ℕ) (a i : ℕ) (row : Row) (compared r : Bool) → row ≡ annotations_row table sheet a → compared ≡ is_compared_at table sheet i →
+    compared ≡ true → r ≡ is_met row i → r ≡ repeats_at table sheet a i
+met-repeats table sheet a i row compared r hr hc here h = rw (← hc, here) (rw hr at h ∙ slotted_same table sheet a i (i - a))
+
+pub other-repeats :
+    (table sheet : List ℕ) (a i : ℕ) (compared : Bool) → compared ≡ is_compared_at table sheet i → compared ≡ false → false ≡ repeats_at table sheet a i
+other-repeats table sheet a i compared hc other = rw (← hc, other)
 
 -- whether record i may repeat an annotation, by its code
 pub compared_by :

@@ -5,6 +5,7 @@ use Rattle.rules.specs.Kind
 use Rattle.rules.specs.Record.{is}
 use Rattle.rules.specs.Context.{doc}
 use Rattle.names.specs.View.{view_at, context_by}
+use Rattle.annotations.specs.Met.{Row}
 
 -- record i is an annotation
 abbrev pub is_annotation : List ℕ → ℕ → Bool
@@ -26,3 +27,7 @@ is_compared_at table sheet i = is Kind.Annotation (view_at sheet i) && not (eqb 
 -- and one from record a on has its name
 abbrev pub repeats_at : List ℕ → List ℕ → ℕ → ℕ → Bool
 repeats_at table sheet a i = is_compared_at table sheet i && any_of ((context_by table sheet).same i) (earlier sheet a i)
+
+-- the annotations from record a on, by their names
+abbrev pub annotations_row : List ℕ → List ℕ → ℕ → Row
+annotations_row table sheet a = record { sheet = sheet; table = table; kind = Kind.Annotation; start = a }

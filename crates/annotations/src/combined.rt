@@ -14,8 +14,7 @@ use rules::{RecordRange, Violation};
 
 // The first annotation with that word, if there is one.
 pub fn first_with(context: ValidationContext, word: Word, annotations: RecordRange) -> Option<usize>
-    requires { (1 ≤ code_of word) × (code_of word ≤ 7) }
-    ensures { at_first context.entry.sheet.now annotations.end result ≡ first_with (numbers_of context.entry) context.entry.sheet.now (code_of word) annotations.start annotations.end }
+    ensures { 1 ≤ code_of word → code_of word ≤ 7 → at_first context.entry.sheet.now annotations.end result ≡ first_with (numbers_of context.entry) context.entry.sheet.now (code_of word) annotations.start annotations.end }
 {
     (annotations.start..annotations.end).find(|i| is_annotation(context.sheet, *i)
         & is_word(context, *i, word))

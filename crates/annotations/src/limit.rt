@@ -12,16 +12,18 @@ use crate::word::is_word;
 use diagnostic::Violations;
 use names::{ValidationContext, Word};
 use rules::{RecordRange, Sheet, Violation};
-
-// The greatest sub of an argument that is a number: `Int` is 0, `Hex` is 1.
-const HEX: u8 = 1;
+use sheet::subs;
 
 // Whether record `j` is a number without a key.
-#[tactic(auto, using(crate::proofs::Limits::number_is))]
+#[tactic(auto, unfolding(crate::specs::AnnotationAt::is_number_at, names::specs::View::context_by, names::specs::View::view_at))]
 pub fn is_number(context: ValidationContext, j: usize) -> bool
     ensures { result ≡ is_number_at (numbers_of context.entry) context.entry.sheet.now j }
 {
-    is_word(context, j, Word::Blank) & (sheet::sub(context.sheet, j) <= HEX)
+    is_word(context, j, Word::Blank)
+        & matches!(
+            sheet::sub(context.sheet, j),
+            subs::INT_ARGUMENT | subs::HEX_ARGUMENT
+        )
 }
 
 // Adds what is wrong with argument `j` of the limit at record `i`, for that type.

@@ -1,8 +1,8 @@
 // The names that the records of a list have, in slots: for a long list.
-ghost use Rattle.std.specs.Prelude.{◌≡◌, ◌%◌, ◌≤◌, ◌<◌};
+ghost use Rattle.std.specs.Prelude.{◌≡◌, ◌+◌, ◌%◌, ◌≤◌, ◌<◌};
 ghost use Rattle.names.specs.Known.{numbers_of};
 ghost use Rattle.annotations.specs.Met.{is_met};
-ghost use Rattle.annotations.specs.Named.{has_name, HasNames};
+ghost use Rattle.annotations.specs.Named.{row_of, HasNames};
 
 use crate::named::NamedRecords;
 use names::ValidationContext;
@@ -13,32 +13,41 @@ use std::marker::Model;
 fn slot(id: u16) -> usize
     ensures { (result ≡ id % 1024) × (result < 1024) }
 {
-    usize::from(id % 1024)
+    usize::from(id) % Sheet::MAX_RECORDS
 }
 
-// Whether one of the records before record `i` has that name, by its slot. All are asked where another name is the last in the slot.
-fn has_name(records: NamedRecords, slots: &[u16; Sheet::MAX_RECORDS], i: usize, id: u16) -> bool
-    requires { HasNames records slots.now i }
-    ensures { result ≡ has_name records.entry id i }
-{
-    let behind = usize::from(slots[slot(id)]);
-    if behind <= records.start {
-        return false;
-    }
-    if records.context.id(behind - 1) == id {
-        return true;
-    }
-    records.has_name(i, id)
+// The names of records of a kind, in slots. A slot has the place behind the last record whose name falls into it, and 0 at first: one comparison with the
+// start of a list turns down both a slot that is empty and a name of an earlier list, where an Option would need two, and twice the bytes to clear.
+#[derive(Drop)]
+struct Slots {
+    behind: [u16; Sheet::MAX_RECORDS],
 }
 
-// Puts the names of the records from record `end` up to record `i` into their slots.
-fn enter(records: NamedRecords, slots: &mut [u16; Sheet::MAX_RECORDS], end: usize, i: usize)
-    requires { HasNames records slots.old end × (end ≤ i) × (i ≤ 1024) }
-    ensures { HasNames records.entry slots.new i }
-{
-    for j in end..i {
-        if sheet::kind(records.context.sheet, j) == records.kind {
-            slots[slot(records.context.id(j))] = (j + 1) as u16;
+impl Slots {
+    // Whether one of the records before record `i` has its name, by the slot. All are asked where another name is the last in the slot.
+    fn is_met(&self, records: NamedRecords, i: usize) -> bool
+        requires { HasNames records self.now.behind i }
+        ensures { result ≡ is_met (row_of records.entry) i }
+    {
+        let id = records.context.id(i);
+        let behind = usize::from(self.behind[slot(id)]);
+        if behind <= records.start {
+            return false;
+        }
+        if records.context.id(behind - 1) == id {
+            return true;
+        }
+        records.has_name(i, id)
+    }
+
+    // Puts the name of record `i` into its slot, if it is one of the records.
+    fn put(&mut self, records: NamedRecords, i: usize)
+        requires { HasNames records self.old.behind i × (i < 1024) }
+        ensures { HasNames records.entry self.new.behind (i + 1) }
+    {
+        if sheet::kind(records.context.sheet, i) == records.kind {
+            let id = records.context.id(i);
+            self.behind[slot(id)] = (i + 1) as u16;
         }
     }
 }
@@ -48,7 +57,7 @@ fn enter(records: NamedRecords, slots: &mut [u16; Sheet::MAX_RECORDS], end: usiz
 pub struct MetNames<'a> {
     records: NamedRecords<'a>,
     end: usize,
-    slots: [u16; Sheet::MAX_RECORDS],
+    slots: Slots,
 }
 
 impl<'a> Model for MetNames<'a> {
@@ -60,7 +69,7 @@ impl<'a> Model for MetNames<'a> {
 
     ghost view = { λ names. row_of names.records };
 
-    ghost invariant = { λ names. HasNames names.records names.slots names.end };
+    ghost invariant = { λ names. HasNames names.records names.slots.behind names.end };
 }
 
 impl<'a> MetNames<'a> {
@@ -75,7 +84,9 @@ impl<'a> MetNames<'a> {
                 start,
             },
             end: start,
-            slots: [0; Sheet::MAX_RECORDS],
+            slots: Slots {
+                behind: [0; Sheet::MAX_RECORDS],
+            },
         }
     }
 
@@ -85,7 +96,7 @@ impl<'a> MetNames<'a> {
     {
         // names in slots that lie behind no record from the start on are none of theirs
         if start < self.end {
-            self.slots = [0; Sheet::MAX_RECORDS];
+            self.slots.behind = [0; Sheet::MAX_RECORDS];
         }
         self.records = NamedRecords {
             context,
@@ -101,16 +112,15 @@ impl<'a> MetNames<'a> {
         ensures { (self.new ≡ self.old) × (result ≡ is_met self.old i) }
     {
         let records = self.records;
-        let id = records.context.id(i);
         // the slots are not for records that come again, nor for those past the last of a sheet
         if (i < self.end) | (Sheet::MAX_RECORDS <= i) {
-            return records.has_name(i, id);
+            return records.is_met(i);
         }
-        enter(records, &mut self.slots, self.end, i);
-        let met = has_name(records, &self.slots, i, id);
-        if sheet::kind(records.context.sheet, i) == records.kind {
-            self.slots[slot(id)] = (i + 1) as u16;
+        for j in self.end..i {
+            self.slots.put(records, j);
         }
+        let met = self.slots.is_met(records, i);
+        self.slots.put(records, i);
         self.end = i + 1;
         met
     }

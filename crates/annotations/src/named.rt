@@ -1,6 +1,7 @@
 // The records of a kind, by their names.
 ghost use Rattle.std.specs.Prelude.{◌≡◌};
-ghost use Rattle.annotations.specs.Named.{names_at, has_name};
+ghost use Rattle.annotations.specs.Met.{is_met};
+ghost use Rattle.annotations.specs.Named.{names_at, has_name, row_of};
 
 use names::ValidationContext;
 
@@ -26,5 +27,12 @@ impl<'a> NamedRecords<'a> {
         ensures { result ≡ has_name self.entry id i }
     {
         (self.start..i).any(|j| self.names_at(j, id))
+    }
+
+    // Whether one of them before record `i` has the name of record `i`, by all of them.
+    pub fn is_met(self, i: usize) -> bool
+        ensures { result ≡ is_met (row_of self.entry) i }
+    {
+        self.has_name(i, self.context.id(i))
     }
 }

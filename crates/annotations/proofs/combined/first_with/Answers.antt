@@ -5,6 +5,6 @@ use Rattle.annotations.proofs.FirstWith.{first-is}
 use Rattle.annotations.proofs.combined.first_with.Goals as goal
 
 pub returns : goal.returns
-returns c =
-    first-is _ _ _ _ c.requires.0 c.requires.1 _ _
+returns c = λ low high.
+    first-is _ _ _ _ low high _ _
     (first_from_Range _ _ _ _ _ _ c.find.ensures.ran (λ x q h. search rules) (λ x q h. search rules))
