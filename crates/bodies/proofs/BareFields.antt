@@ -11,7 +11,7 @@ use Rattle.diagnostic.specs.declared.violations.Violations.{Violations}
 use Rattle.diagnostic.specs.Violations.{Adds}
 use Rattle.diagnostic.proofs.Added.{adds_none}
 use Rattle.types.specs.Own.{named_found}
-use Rattle.types.proofs.OwnKinds.{within-true}
+use Rattle.rules.proofs.Taken.{within-true}
 use Rattle.types.proofs.Views.{view-cons}
 use Rattle.types.proofs.Walk.{type-plain, type-named}
 use Rattle.bodies.specs.Parts.{Bare}

@@ -14,7 +14,8 @@ use Rattle.rules.specs.Record.{Rec, is, record_bytes, kind_in}
 use Rattle.rules.specs.Grammar.{starts_field_item}
 use Rattle.rules.specs.Bodies.{in_annotations, in_type}
 use Rattle.names.specs.View.{view_at}
-use Rattle.types.proofs.OwnKinds.{within-true, below, above}
+use Rattle.rules.proofs.Taken.{within-true}
+use Rattle.types.proofs.OwnKinds.{below, above}
 use Rattle.bodies.specs.declared.field.FieldParts.{FieldParts}
 use Rattle.bodies.specs.Runs.{in_field, AllIn, RunTo}
 use Rattle.bodies.specs.Parts.{OptionalsTo, PartsAt, Bare}

@@ -1,9 +1,10 @@
 -- The rules of one type are those of its kind: the tests of the other kinds fail.
-use Rattle.std.proofs.Common.{◌≡◌, ℕ, ◌<◌, ◌≤◌, Bool, true, false, ◌&&◌, List, [], eqb, leb, refl, sym, ◌∙◌, append-nil, arith, ne_eqb, eqb-true, leb-true, le-leb}
+use Rattle.std.proofs.Common.{◌≡◌, ℕ, ◌<◌, ◌≤◌, Bool, true, false, ◌&&◌, List, [], eqb, refl, sym, ◌∙◌, append-nil, arith, ne_eqb, eqb-true}
 use Rattle.std.proofs.lemmas.Bool.{lt-leb}
 use mathlib.Core.Bool.{and-false}
 use Rattle.rules.specs.declared.span.Span.{Span}
 use Rattle.rules.specs.Words.{within, front}
+use Rattle.rules.proofs.Taken.{within-intro, within-false}
 use Rattle.rules.specs.Kind
 use Rattle.rules.specs.Record.{Rec, is, record_bytes, kind_in, span_in, value_in}
 use Rattle.rules.specs.Context.{ValidationContext}
@@ -15,33 +16,11 @@ use Rattle.diagnostic.proofs.Added.{adds_none}
 use Rattle.names.specs.View.{view_at}
 use Rattle.types.specs.Own.{named_found}
 
-pub both : (x y : Bool) → (x && y) ≡ true → (x ≡ true) × (y ≡ true)
-both true true h = (refl, refl)
-both true false h = cc
-both false y h = cc
-
-pub within-true : (low high n : ℕ) → within low high n ≡ true → (low ≤ n) × (n ≤ high)
-within-true low high n h =
-    let parts = both (leb low n) (leb n high) h in
-    (leb-true low n parts.0, leb-true n high parts.1)
-
 pub below : (low high n : ℕ) → n < low → within low high n ≡ false
 below low high n h = rw (lt-leb low n h)
 
 pub above : (low high n : ℕ) → high < n → within low high n ≡ false
 above low high n h = rw (lt-leb n high h, and-false)
-
-pub inside : (low high n : ℕ) → low ≤ n → n ≤ high → within low high n ≡ true
-inside low high n least most = rw (le-leb low n least, le-leb n high most)
-
-pub outside : (low high n : ℕ) → (low ≤ n → n ≤ high → ⊥) → within low high n ≡ false
-outside low high n h = by (within low high n) refl
-  where
-    by : (b : Bool) → within low high n ≡ b → b ≡ false
-    by true e =
-        let range = within-true low high n e in
-        absurd (h range.0 range.1)
-    by false e = refl
 
 -- the rules that are left for each kind
 module _ (ctx : ValidationContext ℕ Span) (t : Rec ℕ Span) (rs : List (Rec ℕ Span)) where
@@ -54,7 +33,7 @@ module _ (ctx : ValidationContext ℕ Span) (t : Rec ℕ Span) (rs : List (Rec �
   own-keyed least most =
       rw (
         own_type_violations,
-        inside Kind.Set Kind.Map t.kind least most,
+        within-intro Kind.Set Kind.Map t.kind least most,
         ne_eqb t.kind Kind.Named (λ e. omega arith),
         ne_eqb t.kind Kind.FixedArray (λ e. omega arith),
         ne_eqb t.kind Kind.BitsInline (λ e. omega arith),
@@ -67,7 +46,7 @@ module _ (ctx : ValidationContext ℕ Span) (t : Rec ℕ Span) (rs : List (Rec �
   own-geometric least most =
       rw (
         own_type_violations,
-        inside Kind.Vec2 Kind.Mat4 t.kind least most,
+        within-intro Kind.Vec2 Kind.Mat4 t.kind least most,
         ne_eqb t.kind Kind.Named (λ e. omega arith),
         ne_eqb t.kind Kind.FixedArray (λ e. omega arith),
         ne_eqb t.kind Kind.BitsInline (λ e. omega arith),
@@ -93,8 +72,8 @@ module _ (ctx : ValidationContext ℕ Span) (t : Rec ℕ Span) (rs : List (Rec �
       rw (
         own_type_violations,
         ne_eqb t.kind Kind.Named named,
-        outside Kind.Set Kind.Map t.kind keyed,
-        outside Kind.Vec2 Kind.Mat4 t.kind geometric,
+        within-false Kind.Set Kind.Map t.kind keyed,
+        within-false Kind.Vec2 Kind.Mat4 t.kind geometric,
         ne_eqb t.kind Kind.BitsInline bits,
         no-elements (eqb t.kind Kind.FixedArray) (eqb t.value 0) refl refl,
       )

@@ -10,7 +10,8 @@ use Rattle.rules.specs.Context.{ValidationContext}
 use Rattle.rules.specs.Types.{own_type_violations}
 use Rattle.names.specs.View.{view_at}
 use Rattle.types.specs.Due.{stack_after, is_passed}
-use Rattle.types.proofs.OwnKinds.{within-true, own-none}
+use Rattle.rules.proofs.Taken.{within-true}
+use Rattle.types.proofs.OwnKinds.{own-none}
 
 module _ (t : Rec ℕ Span) where
   passed-fixed : t.kind ≡ Kind.FixedArray → is_passed t ≡ not (eqb t.value 0)

@@ -17,7 +17,8 @@ use Rattle.types.specs.declared.field_type.Due.{Due}
 use Rattle.types.specs.Own.{named_found}
 use Rattle.types.specs.Due.{stack_of, stack_after, is_passed, is_checked}
 use Rattle.types.proofs.Left.{Leaves, leaves_rest, leaves_none}
-use Rattle.types.proofs.OwnKinds.{both, own-named, own-none}
+use Rattle.std.proofs.lemmas.Bool.{and_parts}
+use Rattle.types.proofs.OwnKinds.{own-named, own-none}
 use Rattle.types.proofs.Passed.{passed-optional, no_bit, passed-elements, passed-wrapped, wrapped-stack, wrapped-none}
 use Rattle.types.proofs.Stack.{after-leaf}
 use Rattle.types.proofs.Views.{view-cons, view-none, view_first}
@@ -122,7 +123,7 @@ module _ (ctx : ValidationContext ℕ Span) (sheet : List ℕ) (e : ℕ) (old : 
     pub types_done : (due : Due) → stack_of due ≡ tests → (eqb due.skipped 0 && eqb due.checked 0) ≡ true → Adds old now all
     unfolding stack_of
     types_done due same done =
-        let none = both (eqb due.skipped 0) (eqb due.checked 0) done in
+        let none = and_parts (eqb due.skipped 0) (eqb due.checked 0) done in
         leaves_none old now all _ left (rw (← same, eqb-true due.skipped 0 none.0, eqb-true due.checked 0 none.1) (nothing-due ctx (view_of sheet i e)))
 
 pub ruleset types_rules = (types_passed, types_end, no_bit)

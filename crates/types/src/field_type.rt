@@ -1,5 +1,5 @@
 // Rules 6 to 12 of a type and of its parts. A map's key and a generic's part are skipped, and so is all within them.
-ghost use Rattle.std.specs.Prelude.{◌≡◌, ◌+◌, ◌<◌, ◌≤◌, ◌^◌, length};
+ghost use Rattle.std.specs.Prelude.{◌≡◌, ◌+◌, ◌<◌, ◌≤◌, ◌^◌, ◌&&◌, nat_eq, length};
 ghost use Rattle.rules.specs.Words.{only_if};
 ghost use Rattle.rules.specs.Kind;
 ghost use Rattle.rules.specs.Types.{own_type_violations, type_violations};
@@ -28,6 +28,13 @@ impl Due {
         ensures { result ≡ is_checked (stack_of self) }
     {
         (self.skipped == 0) & (self.checked != 0)
+    }
+
+    // Whether no type is due.
+    fn is_empty(self) -> bool
+        ensures { result ≡ (nat_eq self.skipped 0 && nat_eq self.checked 0) }
+    {
+        (self.skipped == 0) & (self.checked == 0)
     }
 
     // What is due after a type of that kind.
@@ -116,10 +123,7 @@ fn check_types(context: ValidationContext, violations: &mut Violations, ty: Reco
         if is_passed(context.sheet, i) {
             continue;
         }
-        let rest = RecordRange {
-            start: i + 1,
-            end: ty.end,
-        };
+        let rest = ty.starting_at(i + 1);
         // asked before the check writes, so that it is read but once
         let kind = sheet::kind(context.sheet, i);
         check_due_type(context, violations, due, i, rest);
@@ -128,7 +132,7 @@ fn check_types(context: ValidationContext, violations: &mut Violations, ty: Reco
             return;
         }
         due = due.after(kind);
-        if (due.skipped == 0) & (due.checked == 0) {
+        if due.is_empty() {
             return;
         }
     }

@@ -17,7 +17,7 @@ fn behind_optionals(sheet: &[u8], ty: RecordRange) -> RecordRange
     let start = (ty.start..ty.end)
         .find(|i| sheet::kind(sheet, *i) != kinds::OPTIONAL)
         .unwrap_or(ty.end);
-    RecordRange { start, end: ty.end }
+    ty.starting_at(start)
 }
 
 // Whether the type is numeric, behind its optionals.
