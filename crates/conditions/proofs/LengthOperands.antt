@@ -18,7 +18,7 @@ pub length_added :
     mid.list.ghost_name ≡ old.list.ghost_name →
     state_of mid ≡ push_if (not collection) (record { class = 65; severity = 0; span = span_in (record_bytes sheet i) }) (state_of old) →
     takes ≡ length_literals → Adds mid new (flat_map (operand_violations ctx takes) (operands_of (view_at sheet i) rs)) →
-    Adds old new (length_violations ctx collection (view_at sheet i) rs)
+    Adds old new (length_violations ctx collection (record { head = view_at sheet i; rest = rs }))
 unfolding length_violations view_at rule_row
 length_added ctx collection sheet i rs takes old mid new reference h same operands =
     adds_then old mid new _ _ (adds_if 30 (not collection) (span_in (record_bytes sheet i)) old mid reference h) (rw same at operands)

@@ -19,14 +19,14 @@ module _ (ctx : ValidationContext ℕ Span) (ty : List (Rec ℕ Span)) where
   -- what is found at one record depends on the type by its literals and by whether it is a collection
   own-found :
       (takes : Literals) (collection : Bool) (c : Rec ℕ Span) (rs : List (Rec ℕ Span)) → takes ≡ literals_of ty → collection ≡ is_collection_type ty →
-      node_violations ctx takes collection c rs ≡ own_condition_violations ctx ty c rs
+      node_violations ctx takes collection (record { head = c; rest = rs }) ≡ own_condition_violations ctx ty c rs
   unfolding node_violations own_condition_violations
   own-found takes collection c rs ht hc = rw (ht, hc)
 
   pub condition_next :
       (sheet : List ℕ) (i e : ℕ) (takes : Literals) (collection : Bool) (old mid new : Violations) (all : List (Found Span)) → i < e →
       takes ≡ literals_of ty → collection ≡ is_collection_type ty → Leaves old mid all (condition_violations ctx ty (view_of sheet i e)) →
-      Adds mid new (node_violations ctx takes collection (view_at sheet i) (view_of sheet (i + 1) e)) →
+      Adds mid new (node_violations ctx takes collection (record { head = view_at sheet i; rest = view_of sheet (i + 1) e })) →
       Leaves old new all (condition_violations ctx ty (view_of sheet (i + 1) e))
   unfolding condition_violations
   condition_next sheet i e takes collection old mid new all h ht hc left here =

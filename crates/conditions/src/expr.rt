@@ -22,10 +22,12 @@ pub fn validate_where_expr(
     let literals = literals_of(context.sheet, ty);
     let collection = types::is_collection_type(context.sheet, ty);
     for start in condition.start..condition.end {
-        let node = RecordRange {
-            start,
-            end: condition.end,
-        };
-        validate_node(context, violations, node, literals, collection);
+        validate_node(
+            context,
+            violations,
+            condition.starting_at(start),
+            literals,
+            collection,
+        );
     }
 }

@@ -1,10 +1,8 @@
 // One condition, without the conditions that are parts of it: rules 23 to 30. It is the first of some records, and those after it have its parts.
-ghost use Rattle.std.specs.Prelude.{◌+◌};
 ghost use Rattle.diagnostic.specs.Violations.{Adds};
 ghost use Rattle.names.specs.Known.{context_in};
-ghost use Rattle.names.specs.View.{view_at, view_of};
 ghost use Rattle.conditions.specs.Taken.{taken};
-ghost use Rattle.conditions.specs.Parts.{comparison_violations, range_violations, length_violations, node_violations};
+ghost use Rattle.conditions.specs.Parts.{node_of, comparison_violations, range_violations, length_violations, node_violations};
 
 use crate::literals::{Literals, length_literals};
 use crate::operands::validate_where_operands;
@@ -21,7 +19,7 @@ fn validate_cmp(
     node: RecordRange,
     literals: Literals,
 )
-    ensures { Adds violations.old violations.new (comparison_violations (context_in context.entry) (taken literals) (view_at context.entry.sheet.now node.start) (view_of context.entry.sheet.now (node.start + 1) node.end)) }
+    ensures { Adds violations.old violations.new (comparison_violations (context_in context.entry) (taken literals) (node_of context.entry.sheet.now node)) }
 {
     validate_where_operands(context, violations, node, literals);
     validate_cmp_operator(context.sheet, violations, node.start, literals.int);
@@ -34,7 +32,7 @@ fn validate_range(
     node: RecordRange,
     literals: Literals,
 )
-    ensures { Adds violations.old violations.new (range_violations (context_in context.entry) (taken literals) (view_at context.entry.sheet.now node.start) (view_of context.entry.sheet.now (node.start + 1) node.end)) }
+    ensures { Adds violations.old violations.new (range_violations (context_in context.entry) (taken literals) (node_of context.entry.sheet.now node)) }
 {
     validate_where_operands(context, violations, node, literals);
     // rule 29
@@ -53,7 +51,7 @@ fn validate_len(
     node: RecordRange,
     collection: bool,
 )
-    ensures { Adds violations.old violations.new (length_violations (context_in context.entry) collection (view_at context.entry.sheet.now node.start) (view_of context.entry.sheet.now (node.start + 1) node.end)) }
+    ensures { Adds violations.old violations.new (length_violations (context_in context.entry) collection (node_of context.entry.sheet.now node)) }
 {
     // rule 30
     violations.error_if(
@@ -74,7 +72,7 @@ pub fn validate_node(
     literals: Literals,
     collection: bool,
 )
-    ensures { Adds violations.old violations.new (node_violations (context_in context.entry) (taken literals) collection (view_at context.entry.sheet.now node.start) (view_of context.entry.sheet.now (node.start + 1) node.end)) }
+    ensures { Adds violations.old violations.new (node_violations (context_in context.entry) (taken literals) collection (node_of context.entry.sheet.now node)) }
 {
     match sheet::kind(context.sheet, node.start) {
         kinds::CMP => validate_cmp(context, violations, node, literals),

@@ -5,7 +5,7 @@ ghost use Rattle.rules.specs.Conditions.{operand_violations};
 ghost use Rattle.diagnostic.specs.Violations.{Adds};
 ghost use Rattle.names.specs.Known.{context_in};
 ghost use Rattle.names.specs.View.{view_at};
-ghost use Rattle.conditions.specs.Taken.{taken, mismatches};
+ghost use Rattle.conditions.specs.Taken.{taken, operand_of};
 
 use crate::literals::Literals;
 use diagnostic::Violations;
@@ -21,17 +21,30 @@ fn is_known_const(context: ValidationContext, i: usize) -> bool
     context.is_imported(i) || types::is_declared_as(context, subs::CONST, i)
 }
 
-// Whether an operand of that sub is a literal that a type with those literals does not take.
-#[tactic(auto, unfolding(crate::specs::Taken::mismatches))]
-fn is_mismatch(sub: u8, literals: Literals) -> bool
-    ensures { result ≡ mismatches (taken literals) sub }
-{
-    match sub {
-        subs::INT_OPERAND => !literals.int,
-        subs::FLOAT_OPERAND => !literals.float,
-        subs::STRING_OPERAND => !literals.string,
-        subs::BOOL_OPERAND => !literals.boolean,
-        _ => false,
+// What an operand is: a literal of a kind, or the name of a constant.
+#[derive(Clone, Copy)]
+enum Operand {
+    Int,
+    Float,
+    String,
+    Bool,
+    ConstRef,
+}
+
+impl Operand {
+    // The operand with that sub; none of a sub that no rule speaks of.
+    #[tactic(auto, unfolding(crate::specs::Taken::operand_of))]
+    fn with_sub(sub: u8) -> Option<Operand>
+        ensures { result ≡ operand_of sub }
+    {
+        match sub {
+            subs::INT_OPERAND => Some(Operand::Int),
+            subs::FLOAT_OPERAND => Some(Operand::Float),
+            subs::STRING_OPERAND => Some(Operand::String),
+            subs::BOOL_OPERAND => Some(Operand::Bool),
+            subs::CONST_REF => Some(Operand::ConstRef),
+            _ => None,
+        }
     }
 }
 
@@ -47,23 +60,23 @@ pub fn validate_where_operand(
     if sheet::kind(context.sheet, i) != kinds::OPERAND {
         return;
     }
-    let sub = sheet::sub(context.sheet, i);
-    if sub == subs::CONST_REF {
-        // rule 27
-        let known = is_known_const(context, i);
-        violations.error_if(
-            !known,
-            context.sheet,
-            i,
-            Violation::WhereClauseConstRefNotFound,
-        );
+    let Some(operand) = Operand::with_sub(sheet::sub(context.sheet, i)) else {
         return;
-    }
-    // rules 23 to 26
-    violations.error_if(
-        is_mismatch(sub, literals),
-        context.sheet,
-        i,
-        Violation::WhereClauseTypeMismatch,
-    );
+    };
+    let (taken, class) = match operand {
+        // rule 23
+        Operand::Int => (literals.int, Violation::WhereClauseTypeMismatch),
+        // rule 24
+        Operand::Float => (literals.float, Violation::WhereClauseTypeMismatch),
+        // rule 25
+        Operand::String => (literals.string, Violation::WhereClauseTypeMismatch),
+        // rule 26
+        Operand::Bool => (literals.boolean, Violation::WhereClauseTypeMismatch),
+        // rule 27
+        Operand::ConstRef => (
+            is_known_const(context, i),
+            Violation::WhereClauseConstRefNotFound,
+        ),
+    };
+    violations.error_if(!taken, context.sheet, i, class);
 }
