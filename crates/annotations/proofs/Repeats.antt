@@ -57,17 +57,6 @@ module _ (table sheet : List ℕ) (a : ℕ) where
       go ih true t = rw (t, ih)
       go ih false t = rw (t, ih)
 
--- the annotation before record i that has its name is the one that the definition has met
-pub met_again :
-    (table sheet : List ℕ) (row : Row) (i : ℕ) (r : Bool) → row.sheet ≡ sheet → row.table ≡ table → row.kind ≡ 20 → r ≡ is_met row i →
-    r ≡ any_of ((context_by table sheet).same i) (earlier sheet row.start i)
-met_again table sheet row i r hs ht hk h = h ∙ rw (hs, ht, hk) (slotted_same table sheet row.start i (i - row.start))
-
-pub among_again :
-    (table sheet : List ℕ) (a i id : ℕ) (r : Bool) → id ≡ entry_of id_part table i →
-    r ≡ has_key (is_annotation sheet) (entry_of id_part table) a id (i - a) → r ≡ any_of ((context_by table sheet).same i) (earlier sheet a i)
-among_again table sheet a i id r hi h = h ∙ rw hi (slotted_same table sheet a i (i - a))
-
 -- what is told of record i, if it is compared, is whether it repeats an annotation
 pub met-repeats :
     (table sheet : List ℕ) (a i : ℕ) (row : Row) (compared r : Bool) → row ≡ annotations_row table sheet a → compared ≡ is_compared_at table sheet i →

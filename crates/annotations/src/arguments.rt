@@ -22,10 +22,7 @@ pub fn rest(records: RecordRange) -> RecordRange
     ensures view { (sheet : List ℕ) → view_of sheet result.start result.end ≡ view_of sheet (suc records.start) records.end }
     ensures end { result.end ≡ records.end }
 {
-    RecordRange {
-        start: records.start.saturating_add(1),
-        end: records.end,
-    }
+    records.starting_at(records.start.saturating_add(1))
 }
 
 // The first annotation, if there is one.

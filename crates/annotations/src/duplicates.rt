@@ -15,7 +15,7 @@ use names::{ValidationContext, Word};
 use rules::{RecordRange, Violation};
 use sheet::kinds;
 
-// The most records whose annotations are compared one by one.
+// The most records whose annotations are compared one by one: for so few, that takes less than to clear the slots of names.
 const FEW: usize = 16;
 
 // Whether record `i` is an annotation other than `doc`.

@@ -25,11 +25,7 @@ pub fn check_each(
 {
     for i in annotations.start..annotations.end {
         if is_annotation(context.sheet, i) {
-            let annotation = RecordRange {
-                start: i,
-                end: annotations.end,
-            };
-            check_annotation(context, violations, annotation, ty);
+            check_annotation(context, violations, annotations.starting_at(i), ty);
         }
     }
 }

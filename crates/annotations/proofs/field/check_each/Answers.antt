@@ -9,7 +9,7 @@ loop-i-preserved c =
       | then-is_annotation w ↦
           rw w.violations-is
           (each-found c.args.context c.args.ty _ _ _ c.loop-i.violations _ _ _ c.loop-i-test.true c.is_annotation.ensures w.if-is_annotation.true c.loop-i.invariant
-          w.check_annotation.ensures)
+          (rw w.starting_at.ensures at w.check_annotation.ensures))
       | else-is_annotation w ↦
           rw w.violations-is
           (each-other c.args.context c.args.ty _ _ _ _ _ _ c.loop-i-test.true c.is_annotation.ensures w.if-is_annotation.false c.loop-i.invariant)
