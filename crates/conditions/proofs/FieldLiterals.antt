@@ -2,6 +2,8 @@
 use Rattle.std.proofs.Common.{◌≡◌, ℕ, ◌<◌, ◌≤◌, Bool, true, false, ◌&&◌, List, leb, eqb, refl, leb-true, leb-false, Option, Some, None}
 use Rattle.rules.specs.declared.range.RecordRange.{RecordRange}
 use Rattle.rules.specs.Range.{first_of}
+use Rattle.rules.specs.Words.{within}
+use Rattle.rules.specs.Sub
 use Rattle.rules.specs.Record.{record_bytes, kind_in, sub_in}
 use Rattle.rules.specs.Types.{is_numeric_type}
 use Rattle.rules.specs.Conditions.{literals_of}
@@ -30,15 +32,15 @@ module _ (sheet : List ℕ) (ty : RecordRange) (int : Bool) (h : int ≡ is_nume
   literals_none first is none = rw (h, view-none sheet ty.start ty.end (first_none ty first is none))
 
   pub literals_first :
-      (first : Option ℕ) (i kind sub : ℕ) → first ≡ first_of ty → first ≡ Some i → kind ≡ kind_in (record_bytes sheet i) → sub ≡ sub_in (record_bytes sheet i) →
+      (first : Option ℕ) (i kind sub : ℕ) (float : Bool) → float ≡ within Sub.F32 Sub.F64 sub → first ≡ first_of ty → first ≡ Some i → kind ≡ kind_in (record_bytes sheet i) → sub ≡ sub_in (record_bytes sheet i) →
       record {
         int = int;
-        float = eqb kind 30 && (leb 9 sub && leb sub 10);
+        float = eqb kind 30 && float;
         string = eqb kind 32 && eqb sub 0;
         bool = eqb kind 30 && eqb sub 0;
       }
       ≡ literals_of (view_of sheet ty.start ty.end)
   unfolding view_at
-  literals_first first i kind sub is some hk hs =
+  literals_first first i kind sub float hf is some hk hs =
       let there = first_some ty first is i some in
-      rw (h, hk, hs, there.0, view-cons sheet ty.start ty.end there.1)
+      rw (hf, h, hk, hs, there.0, view-cons sheet ty.start ty.end there.1)

@@ -1,5 +1,7 @@
 // Which literals a type takes as operands.
 ghost use Rattle.std.specs.Prelude.{◌≡◌};
+ghost use Rattle.rules.specs.Words.{within};
+ghost use Rattle.rules.specs.Sub;
 ghost use Rattle.rules.specs.Conditions.{length_literals, literals_of};
 ghost use Rattle.names.specs.View.{view_of};
 ghost use Rattle.conditions.specs.Taken.{taken};
@@ -14,6 +16,13 @@ pub struct Literals {
     pub float: bool,
     pub string: bool,
     pub boolean: bool,
+}
+
+// Whether a primitive type of that sub is a floating point number: F32, F64.
+fn is_float(sub: u8) -> bool
+    ensures { result ≡ within Sub.F32 Sub.F64 sub }
+{
+    matches!(sub, subs::F32..=subs::F64)
 }
 
 // The literals of the type: Int behind its optionals, the others by its first record.
@@ -31,7 +40,7 @@ pub fn literals_of(sheet: &[u8], ty: RecordRange) -> Literals
     let sub = sheet::sub(sheet, first);
     Literals {
         int,
-        float: (kind == kinds::PRIMITIVE) & ((subs::F32 <= sub) & (sub <= subs::F64)),
+        float: (kind == kinds::PRIMITIVE) & is_float(sub),
         string: (kind == kinds::SEMANTIC) & (sub == subs::STRING),
         boolean: (kind == kinds::PRIMITIVE) & (sub == subs::BOOL),
     }

@@ -1,4 +1,7 @@
 // The operator of a comparison: rule 28.
+ghost use Rattle.std.specs.Prelude.{◌≡◌};
+ghost use Rattle.rules.specs.Words.{within};
+ghost use Rattle.rules.specs.Sub;
 ghost use Rattle.diagnostic.specs.Violations.{Adds};
 ghost use Rattle.names.specs.View.{view_at};
 ghost use Rattle.conditions.specs.Parts.{operator_violations};
@@ -7,13 +10,19 @@ use diagnostic::Violations;
 use rules::Violation;
 use sheet::{kinds, subs};
 
+// Whether a comparison of that sub orders: Lt, Gt, Le, Ge.
+fn orders(sub: u8) -> bool
+    ensures { result ≡ within Sub.Lt Sub.Ge sub }
+{
+    matches!(sub, subs::LT..=subs::GE)
+}
+
 // Adds what rule 28 finds at record `i`, if it is a comparison, on a field that is numeric or not.
 pub fn validate_cmp_operator(sheet: &[u8], violations: &mut Violations, i: usize, numeric: bool)
     ensures { Adds violations.old violations.new (operator_violations numeric (view_at sheet.now i)) }
 {
     // rule 28
-    let sub = sheet::sub(sheet, i);
-    let orders = (subs::LT <= sub) & (sub <= subs::GE);
-    let bad = (sheet::kind(sheet, i) == kinds::CMP) & orders & !numeric;
+    let ordered = (sheet::kind(sheet, i) == kinds::CMP) & orders(sheet::sub(sheet, i));
+    let bad = ordered & !numeric;
     violations.error_if(bad, sheet, i, Violation::WhereClauseOperatorInvalid);
 }

@@ -7,4 +7,4 @@ use Rattle.conditions.proofs.operator.validate_cmp_operator.Goals as goal
 
 pub returns : goal.returns
 unfolding operator_violations view_at rule_row
-returns c = adds_if 28 _ _ _ _ c.error_if.ensures.reference (rw (c.kind.ensures, c.sub-sub.ensures) at c.error_if.ensures.state)
+returns c = adds_if 28 _ _ _ _ c.error_if.ensures.reference (rw (c.kind.ensures, c.orders.ensures, c.sub.ensures) at c.error_if.ensures.state)
