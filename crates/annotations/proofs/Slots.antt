@@ -9,6 +9,7 @@ use lib.ListN.{get_or, set, replicate, length-set, length-replicate}
 use lib.Seq.{get_or-set_same, get_or-set_other}
 use lib.Dec.{eqb}
 use borrow.Author.Tests.{eq-eqb, ne_eqb, eqb-true}
+use Rattle.std.proofs.lemmas.Bool.{and_parts}
 use Rattle.annotations.proofs.Asked.{SomeFrom}
 use Rattle.annotations.specs.Slots.{has_key, Behind, Slotted, Ready}
 
@@ -21,10 +22,6 @@ zero-at (suc m) (suc k) = zero-at m k
 pub ready-new : (a : ℕ) → Ready (replicate 1024 0) a
 unfolding Ready
 ready-new a = (length-replicate {A = ℕ} 1024 0, λ b. omega (arith, zero-at 1024 b))
-
-and-both : (b c : Bool) → b && c ≡ true → (b ≡ true) × (c ≡ true)
-and-both true c h = (refl, h)
-and-both false c h = absurd (true≢false (sym h))
 
 module _ (on : ℕ → Bool) (key : ℕ → ℕ) (a : ℕ) where
   -- nothing is on from a up to a
@@ -110,7 +107,7 @@ module _ (on : ℕ → Bool) (key : ℕ → ℕ) (a : ℕ) where
   unfolding has_key
   all-asked v i true h =
       let back : a + (h.0 - a) ≡ h.0 = omega (arith, h.1) in
-      let both = and-both (on h.0) (eqb v (key h.0)) h.3 in
+      let both = and_parts (on h.0) (eqb v (key h.0)) h.3 in
       sym (has-among v (i - a) (h.0 - a) (omega (arith, h.1, h.2)) (ap on back ∙ both.0) (ap key back ∙ sym (eqb-true v (key h.0) both.1)))
   all-asked v i false none = sym (never (i - a) (λ m l. none (a + m) (omega arith) (omega arith)))
     where

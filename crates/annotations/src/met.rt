@@ -47,6 +47,7 @@ impl Slots {
     {
         if sheet::kind(records.context.sheet, i) == records.kind {
             let id = records.context.id(i);
+            // a sheet has fewer records than 16 bits count
             self.behind[slot(id)] = (i + 1) as u16;
         }
     }
