@@ -1,13 +1,7 @@
 -- The tests for the types that are due are always some that are skipped and then some that are checked: a skipped type's parts are skipped,
 -- a map puts one skipped part before a checked one, a generic one skipped part, and any other checked type checked parts alone.
-use Prim.Native.Nat.{ℕ, zero, suc, ◌+◌, ◌-◌, ◌<◌, ◌≤◌}
-use mathlib.Core.Path.{◌≡◌, refl, ap, ◌∙◌}
-use mathlib.Core.Bool.{Bool, true, false, not, ◌&&◌}
-use mathlib.Core.List.{List, [], ◌∷◌, ◌++◌, map, append_assoc}
-use native.Mathlib.Omega.{arith}
-use lib.Dec.{T, eqb, leb}
-use lib.ListN.{length, replicate, replicate-append-replicate}
-use borrow.Author.Tests.{ne_eqb, eqb-true, leb-true}
+use Rattle.std.proofs.Common.{ℕ, zero, suc, ◌+◌, ◌-◌, ◌<◌, ◌≤◌, ◌≡◌, refl, ap, ◌∙◌, Bool, true, false, not, ◌&&◌, List, [], ◌∷◌, ◌++◌, map, append_assoc, arith, T, eqb, leb, length, replicate, ne_eqb, eqb-true, leb-true}
+use lib.ListN.{replicate-append-replicate}
 use Rattle.rules.specs.Kind
 use Rattle.rules.specs.Types.{checked_parts}
 use Rattle.sheet.proofs.Below.{passes_below, passes_at}

@@ -1,6 +1,5 @@
 -- The records of a range, one at a time: the first record and those after it, or none where the range is empty.
-use Rattle.std.proofs.Common.{◌≡◌, ℕ, suc, ◌+◌, ◌-◌, ◌<◌, ◌≤◌, Bool, true, false, List, [], ◌∷◌, leb, leb-true, leb-false, refl, arith, add-one}
-use Rattle.std.specs.Prelude.{Option, Some, None, MatchOption}
+use Rattle.std.proofs.Common.{◌≡◌, ℕ, suc, ◌+◌, ◌-◌, ◌<◌, ◌≤◌, Bool, true, false, List, [], ◌∷◌, leb, leb-true, leb-false, refl, arith, add-one, Option, Some, None, MatchOption}
 use Rattle.rules.specs.declared.span.Span.{Span}
 use Rattle.rules.specs.declared.range.RecordRange.{RecordRange}
 use Rattle.rules.specs.Range.{first_of}
