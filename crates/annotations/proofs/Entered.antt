@@ -1,9 +1,5 @@
 -- The names that are met: a record of the kind goes into its slot, and the slots tell of a name what asking all records tells.
-use Prim.Native.Nat.{ℕ, ◌+◌, ◌%◌}
-use mathlib.Core.Path.{◌≡◌, sym, ◌∙◌}
-use mathlib.Core.List.{List}
-use lib.ListN.{set}
-use borrow.Author.Tests.{eq-eqb, ne_eqb}
+use Rattle.std.proofs.Common.{ℕ, ◌+◌, ◌%◌, ◌≡◌, sym, ◌∙◌, List, set, eq-eqb, ne_eqb}
 use Rattle.rules.specs.Record.{kind_in, record_bytes}
 use Rattle.names.specs.Known.{numbers_of}
 use Rattle.names.specs.View.{view_at, entry_of, id_part}

@@ -1,11 +1,5 @@
 -- Rules 14 to 21: an annotation has one word, so it breaks the rules of that word alone.
-use Prim.Native.Nat.{ℕ, ◌≤◌}
-use mathlib.Core.Path.{◌≡◌, refl, sym, ◌∙◌}
-use mathlib.Core.Bool.{Bool, false, not}
-use mathlib.Core.List.{List, [], ◌++◌, append-nil}
-use native.Mathlib.Omega.{arith}
-use lib.Dec.{eqb}
-use Rattle.std.specs.Prelude.{Some, None}
+use Rattle.std.proofs.Common.{ℕ, ◌≤◌, ◌≡◌, refl, sym, ◌∙◌, Bool, false, not, List, [], ◌++◌, append-nil, arith, eqb, Some, None}
 use Rattle.rules.specs.declared.span.Span.{Span}
 use Rattle.rules.specs.Record.{Rec}
 use Rattle.rules.specs.Rule.{Found, found_if, violation}

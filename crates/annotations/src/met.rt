@@ -25,6 +25,7 @@ struct Slots {
 
 impl Slots {
     // Whether one of the records before record `i` has its name, by the slot. All are asked where another name is the last in the slot.
+    #[inline(always)]
     fn is_met(&self, records: NamedRecords, i: usize) -> bool
         requires { HasNames records self.now.behind i }
         ensures { result ≡ is_met (row_of records.entry) i }
@@ -41,6 +42,7 @@ impl Slots {
     }
 
     // Puts the name of record `i` into its slot, if it is one of the records.
+    #[inline(always)]
     fn put(&mut self, records: NamedRecords, i: usize)
         requires { HasNames records self.old.behind i × (i < 1024) }
         ensures { HasNames records.entry self.new.behind (i + 1) }
