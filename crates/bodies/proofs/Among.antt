@@ -10,6 +10,7 @@ use Rattle.rules.specs.declared.span.Span.{Span}
 use Rattle.rules.specs.Words.{only_if, any_of, member, select}
 use Rattle.rules.specs.Record.{Rec, is}
 use Rattle.names.specs.View.{view_at, view_from, view_of}
+use Rattle.annotations.proofs.Asked.{SomeFrom}
 use Rattle.bodies.specs.Earlier.{values_of, earlier, values_before, has_value}
 use Rattle.bodies.proofs.Passing.{values}
 
@@ -72,22 +73,11 @@ module _ (sheet : List ℕ) (kind x : ℕ) where
   none-before (suc n) a all =
       none-before n a (λ i l h. all i l (omega arith)) ∙ here-no (a + n) (earlier kind sheet a n) (all (a + n) (omega arith) (omega arith))
 
-  module _
-      (a e : ℕ)
-      (found : Bool)
-      (some : found ≡ true → (i : ℕ) × (a ≤ i) × (i < e) × (has_value kind sheet x i ≡ true))
-      (none : found ≡ false → (i : ℕ) → a ≤ i → i < e → has_value kind sheet x i ≡ false)
-    where
-      pub among-values : found ≡ member x (values_of kind (view_of sheet a e))
-      among-values = by found refl
-        where
-          by : (b : Bool) → found ≡ b → found ≡ member x (values_of kind (view_of sheet a e))
-          by true h = let s = some h in h ∙ some-of (e - a) a s.0 s.1 (omega (arith, s.1, s.2)) s.3
-          by false h = h ∙ none-of (e - a) a (λ i l k. none h i l (omega arith))
+  module _ (a e : ℕ) where
+    pub among-values : (found : Bool) → SomeFrom (has_value kind sheet x) a e found → found ≡ member x (values_of kind (view_of sheet a e))
+    among-values true s = some-of (e - a) a s.0 s.1 (omega (arith, s.1, s.2)) s.3
+    among-values false none = none-of (e - a) a (λ i l k. none i l (omega arith))
 
-      pub among-before : found ≡ member x (values_before kind sheet a e)
-      among-before = by found refl
-        where
-          by : (b : Bool) → found ≡ b → found ≡ member x (values_before kind sheet a e)
-          by true h = let s = some h in h ∙ some-before (e - a) a s.0 s.1 (omega (arith, s.1, s.2)) s.3
-          by false h = h ∙ none-before (e - a) a (λ i l k. none h i l (omega arith))
+    pub among-before : (found : Bool) → SomeFrom (has_value kind sheet x) a e found → found ≡ member x (values_before kind sheet a e)
+    among-before true s = some-before (e - a) a s.0 s.1 (omega (arith, s.1, s.2)) s.3
+    among-before false none = none-before (e - a) a (λ i l k. none i l (omega arith))

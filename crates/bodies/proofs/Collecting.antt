@@ -2,7 +2,7 @@
 use Prim.Native.Nat.{ℕ, ◌+◌, ◌-◌, ◌%◌, ◌≤◌, ◌<◌}
 use native.Mathlib.Omega.{arith}
 use mathlib.Core.Path.{◌≡◌, sym, ap, ◌∙◌}
-use mathlib.Core.Bool.{true, false}
+use mathlib.Core.Bool.{Bool, true, false}
 use mathlib.Core.List.{List, ◌∷◌}
 use lib.ListN.{length, set, length-set}
 use Rattle.rules.specs.Words.{select}
@@ -29,7 +29,7 @@ unfolding values_of select view_at
 values_other sheet kind i e h t = rw (view-cons sheet i e h, t, select)
 
 -- the values that row 5 lets through, of the records from i up to e that are of a kind, stand in the array, that of the last first, and have their marks
-abbrev pub Collected : List ℕ → ℕ → ℕ → ℕ → List ℕ → List ℕ → ℕ → ℕ → Type 0
+abbrev pub Collected : List ℕ → ℕ → ℕ → ℕ → List ℕ → List Bool → ℕ → ℕ → Type 0
 Collected sheet a e kind numbers marks len i =
     (length numbers ≡ 1024)
     × (length marks ≡ 1021)
@@ -39,7 +39,7 @@ Collected sheet a e kind numbers marks len i =
     × (latest numbers 0 len ≡ narrow (values_of kind (view_of sheet i e)))
     × Marked numbers marks len
 
-module _ (sheet : List ℕ) (a e kind : ℕ) (numbers marks : List ℕ) where
+module _ (sheet : List ℕ) (a e kind : ℕ) (numbers : List ℕ) (marks : List Bool) where
   pub collected-none : length numbers ≡ 1024 → length marks ≡ 1021 → a ≤ e → Collected sheet a e kind numbers marks 0 e
   unfolding latest values_of select
   collected-none size₁ size₂ le =
@@ -85,11 +85,11 @@ module _ (sheet : List ℕ) (a e kind : ℕ) (numbers marks : List ℕ) where
 
     collected-next :
         (v n : ℕ) → e ≤ 1024 → k ≡ kind → v ≡ value_in (record_bytes sheet (i - 1)) → v ≤ 4294967295 → n ≡ v →
-        Collected sheet a e kind (set numbers len n) (set marks (n % 1021) 1) (len + 1) (i - 1)
+        Collected sheet a e kind (set numbers len n) (set marks (n % 1021) true) (len + 1) (i - 1)
     collected-next v n small same hv thin hn =
         let room : len < length numbers = omega (arith, c.0, c.3, c.4) in (
           length-set numbers len n ∙ c.0,
-          length-set marks (n % 1021) 1 ∙ c.1,
+          length-set marks (n % 1021) true ∙ c.1,
           omega arith,
           omega (arith, c.3, c.4),
           omega (arith, c.4),
@@ -101,8 +101,8 @@ module _ (sheet : List ℕ) (a e kind : ℕ) (numbers marks : List ℕ) where
         )
 
     pub collected-kept :
-        (numbers' marks' : List ℕ) (v n len' : ℕ) → e ≤ 1024 → k ≡ kind → v ≡ value_in (record_bytes sheet (i - 1)) → v ≤ 4294967295 → n ≡ v →
-        numbers' ≡ set numbers len n → marks' ≡ set marks (n % 1021) 1 → len' ≡ len + 1 → Collected sheet a e kind numbers' marks' len' (i - 1)
+        (numbers' : List ℕ) (marks' : List Bool) (v n len' : ℕ) → e ≤ 1024 → k ≡ kind → v ≡ value_in (record_bytes sheet (i - 1)) → v ≤ 4294967295 → n ≡ v →
+        numbers' ≡ set numbers len n → marks' ≡ set marks (n % 1021) true → len' ≡ len + 1 → Collected sheet a e kind numbers' marks' len' (i - 1)
     collected-kept numbers' marks' v n len' small same hv thin hn hns hms hl = rw (hns, hms, hl) (collected-next v n small same hv thin hn)
 
   pub collected-all :

@@ -8,7 +8,7 @@ use Rattle.rules.specs.Kind
 use Rattle.rules.specs.Record.{is, kind_in, value_in, record_bytes}
 use Rattle.rules.specs.Grammar.{starts_field_item}
 use Rattle.rules.specs.Rule.{Found, found_if}
-use Rattle.rules.specs.Bodies.{field_scheme, items_violations, field_item_violations, field_list_violations}
+use Rattle.rules.specs.Bodies.{field_scheme, items_violations, field_item_violations, field_violations, field_list_violations}
 use Rattle.names.specs.Known.{numbers_of, context_in}
 use Rattle.names.specs.View.{view_at, view_of, entry_of, id_part, context_by}
 use Rattle.diagnostic.specs.declared.violations.Violations.{Violations}
@@ -20,16 +20,18 @@ use Rattle.types.proofs.Left.{Leaves, leaves_rest, leaves_none}
 use Rattle.bodies.specs.declared.whole.WholeRecords.{WholeRecords}
 use Rattle.bodies.specs.declared.seen.Seen.{Seen}
 use Rattle.bodies.specs.declared.seen.ItemList.{ItemList}
-use Rattle.bodies.specs.declared.seen.Meeting.{Meeting}
+use Rattle.bodies.specs.declared.seen.MetItem.{MetItem}
 use Rattle.bodies.specs.Seen.{Known}
-use Rattle.bodies.specs.Met.{sheet_of, tombstoned_in, met_before, KnownBefore}
+use Rattle.bodies.specs.Met.{sheet_of, IsItem, tombstoned_in, met_before, KnownBefore}
 use Rattle.bodies.specs.Earlier.{earlier, values_before}
 use Rattle.bodies.specs.Runs.{in_field, AllIn, RunTo}
+use Rattle.bodies.specs.Ordinal.{member_found}
 use Rattle.bodies.specs.Items.{field_found}
 use Rattle.bodies.proofs.Passing.{gone, known-other}
 use Rattle.bodies.proofs.Turns.{names_of, kind-is, kind-not, turn-none}
 use Rattle.bodies.proofs.Retired.{retired-fields}
-use Rattle.bodies.proofs.FieldTurns.{fields_left, field-not, field-inner, field-other, field-turn}
+use Rattle.bodies.proofs.WholeRecords.{has-ordinal, field-has}
+use Rattle.bodies.proofs.FieldTurns.{fields_left, field-not, field-inner, field-other, field-turn, item-found}
 
 module _ (table sheet : List ℕ) (a : ℕ) where
   -- the names met are those of the fields before
@@ -151,23 +153,29 @@ module _ (fields : WholeRecords) where
         (turn-none (context_in fields.context) field_scheme (field_item_violations (context_in fields.context)) starts_field_item 11 sheet a e tombs i h)
 
   -- a field
-  module _ (seen : Seen) (names : Row) (old now : Violations) (i kind ordinal : ℕ) (k : FieldsKnown seen names old now i) (h : i < e) (hk : kind ≡ kind_in (record_bytes sheet i)) (eq : kind ≡ 11) where
+  module _ (seen : Seen) (names : Row) (old now : Violations) (i kind : ℕ) (k : FieldsKnown seen names old now i) (h : i < e) (hk : kind ≡ kind_in (record_bytes sheet i)) (eq : kind ≡ 11) where
     test : is Kind.Field (view_at sheet i) ≡ true
     test = kind-is sheet i kind 11 hk eq
 
-    pub meets_field : is seen.list.item (view_at (sheet_of seen.list) i) ≡ true
-    meets_field = rw k.list test
+    pub meets_field : IsItem seen.list i
+    meets_field = rw k.list (h, test, has-ordinal kind 11 (kind_in (record_bytes sheet i)) hk eq field-has)
 
     pub fields_field :
-        (seen' : Seen) (names' : Row) (now' : Violations) (m : Meeting) (renamed : Bool) (end : ℕ) → ordinal ≡ value_in (record_bytes sheet i) →
-        seen'.list ≡ seen.list → m.tombstoned ≡ tombstoned_in seen.list ordinal → m.met ≡ met_before seen.list i ordinal → KnownBefore seen' (i + 1) →
+        (seen' : Seen) (names' : Row) (mid now' : Violations) (item : MetItem) (renamed : Bool) (end : ℕ) → seen'.list ≡ seen.list →
+        item.sheet ≡ seen.list.records.context.sheet → item.index ≡ i →
+        item.meeting.tombstoned ≡ tombstoned_in seen.list (value_in (record_bytes (sheet_of seen.list) i)) →
+        item.meeting.met ≡ met_before seen.list i (value_in (record_bytes (sheet_of seen.list) i)) → KnownBefore seen' (i + 1) →
         (names' ≡ names) × (renamed ≡ is_met names i) → RunTo in_field sheet (i + 1) e end →
-        Adds now now' (field_found table sheet i end m.tombstoned m.met renamed) → FieldsKnown seen' names' old now' end
+        Adds now mid (member_found field_scheme item.meeting.tombstoned item.meeting.met renamed (view_at item.sheet.now item.index)) →
+        Adds mid now' (field_violations (context_in fields.context) (view_of sheet (i + 1) end)) → FieldsKnown seen' names' old now' end
     unfolding view_at
-    fields_field seen' names' now' m renamed end ho same ht hm known' again ends adds =
+    fields_field seen' names' mid now' item renamed end same hs hi ht hm known' again ends ordinal parts =
+        let m = item.meeting in
+        let adds : Adds now now' (field_found table sheet i end m.tombstoned m.met renamed) =
+        item-found table sheet i end m.tombstoned m.met renamed now mid now' (rw (hs, k.list, hi) at ordinal) parts in
         let whole : seen'.list ≡ fields_of = same ∙ k.list in
-        let dead : m.tombstoned ≡ member (value_in (record_bytes sheet i)) tombs = rw (k.list, ho) at ht in
-        let met : m.met ≡ member (value_in (record_bytes sheet i)) (values_before 11 sheet a i) = rw (k.list, ho) at hm in
+        let dead : m.tombstoned ≡ member (value_in (record_bytes sheet i)) tombs = rw k.list at ht in
+        let met : m.met ≡ member (value_in (record_bytes sheet i)) (values_before 11 sheet a i) = rw k.list at hm in
         let named : renamed ≡ is_met names_in i = rw k.named at again.1 in
         let next : FieldsKnown seen' names' old now' (i + 1) = record {
           list = whole;

@@ -12,7 +12,7 @@ use Rattle.bodies.proofs.Passing.{known-kept}
 pub kept-known :
     (old new : Seen) (i ordinal number : ℕ) → i < end_of old.list → is old.list.item (view_at (sheet_of old.list) i) ≡ true →
     ordinal ≡ value_in (record_bytes (sheet_of old.list) i) → KnownBefore old i → ordinal ≤ 4294967295 → number ≡ ordinal →
-    new.list ≡ old.list → new.ordinals ≡ set old.ordinals old.len number → new.marks ≡ set old.marks (number % 1021) 1 →
+    new.list ≡ old.list → new.ordinals ≡ set old.ordinals old.len number → new.marks ≡ set old.marks (number % 1021) true →
     new.tombstones ≡ old.tombstones → new.len ≡ old.len + 1 → KnownBefore new (i + 1)
 kept-known old new i ordinal number inside item read known small hn list ordinals marks tombstones len =
     rw (list, ordinals, marks, tombstones, len)

@@ -1,10 +1,10 @@
--- The numbers already met: what a store behind the last of them adds, and that a number whose mark is 0 is not among them.
+-- The numbers already met: what a store behind the last of them adds, and that a number that has no mark is not among them.
 use Prim.Native.Nat.{ℕ, zero, suc, ◌+◌, ◌-◌, ◌%◌, ◌≤◌, ◌<◌}
 use native.Mathlib.Decide.{ℕ_discrete}
 use native.Mathlib.Omega.{arith}
 use native.Mathlib.Numerals.{add-one}
 use mathlib.Core.Path.{◌≡◌, refl, sym, ap, ap₂, ◌∙◌}
-use mathlib.Core.Bool.{Bool, true, false, ◌||◌, or_assoc, or_comm}
+use mathlib.Core.Bool.{Bool, true, false, ◌||◌, or_assoc, or_comm, true≢false}
 use mathlib.Core.List.{List, ◌∷◌}
 use lib.ListN.{length, get_or, set, take, drop}
 use lib.Seq.{get_or-set_same, get_or-set_other, take-length, length-take-le}
@@ -143,52 +143,52 @@ latest-part xs a n le =
     ∙ latest-same (take n (drop a xs)) xs a n (λ i h. get_or-take n (drop a xs) i 0 h ∙ get_or-drop a xs i 0)
 
 -- none has its mark yet
-pub marked-none : (numbers marks : List ℕ) → Marked numbers marks 0
+pub marked-none : (numbers : List ℕ) (marks : List Bool) → Marked numbers marks 0
 unfolding Marked
 marked-none numbers marks j h = absurd (omega arith)
 
-pub marked-fewer : (numbers marks : List ℕ) (m n : ℕ) → m ≤ n → Marked numbers marks n → Marked numbers marks m
+pub marked-fewer : (numbers : List ℕ) (marks : List Bool) (m n : ℕ) → m ≤ n → Marked numbers marks n → Marked numbers marks m
 unfolding Marked
 marked-fewer numbers marks m n le all j h = all j (omega arith)
 
 -- one mark more
-marked-set : (numbers marks : List ℕ) (n p : ℕ) → p < length marks → Marked numbers marks n → Marked numbers (set marks p 1) n
+marked-set : (numbers : List ℕ) (marks : List Bool) (n p : ℕ) → p < length marks → Marked numbers marks n → Marked numbers (set marks p true) n
 unfolding Marked
-marked-set numbers marks n p room all j h z = go (ℕ_discrete (get_or numbers j 0 % 1021) p)
+marked-set numbers marks n p room all j h = go (ℕ_discrete (get_or numbers j 0 % 1021) p)
   where
-    go : Dec (get_or numbers j 0 % 1021 ≡ p) → ⊥
-    go (yes same) =
-        let one : get_or (set marks p 1) (get_or numbers j 0 % 1021) 0 ≡ 1 = rw same (get_or-set_same marks p 1 0 room) in omega arith
-    go (no differ) = all j h (sym (get_or-set_other marks p (get_or numbers j 0 % 1021) 1 0 differ) ∙ z)
+    go : Dec (get_or numbers j 0 % 1021 ≡ p) → get_or (set marks p true) (get_or numbers j 0 % 1021) false ≡ true
+    go (yes same) = rw same (get_or-set_same marks p true false room)
+    go (no differ) = get_or-set_other marks p (get_or numbers j 0 % 1021) true false differ ∙ all j h
 
 -- one number more, which has its mark
 marked_more :
-    (numbers marks : List ℕ) (n v : ℕ) → n < length numbers → (get_or marks (v % 1021) 0 ≡ 0 → ⊥) → Marked numbers marks n → Marked (set numbers n v) marks (n + 1)
+    (numbers : List ℕ) (marks : List Bool) (n v : ℕ) → n < length numbers → get_or marks (v % 1021) false ≡ true → Marked numbers marks n →
+    Marked (set numbers n v) marks (n + 1)
 unfolding Marked
-marked_more numbers marks n v room one all j h z = go (ℕ_discrete j n)
+marked_more numbers marks n v room one all j h = go (ℕ_discrete j n)
   where
-    go : Dec (j ≡ n) → ⊥
+    go : Dec (j ≡ n) → get_or marks (get_or (set numbers n v) j 0 % 1021) false ≡ true
     go (yes same) =
-        let here : get_or (set numbers n v) j 0 ≡ v = rw same (get_or-set_same numbers n v 0 room) in one (rw here at z)
-    go (no differ) = all j (omega arith) (rw (get_or-set_other numbers n j v 0 differ) at z)
+        let here : get_or (set numbers n v) j 0 ≡ v = rw same (get_or-set_same numbers n v 0 room) in rw here one
+    go (no differ) = rw (get_or-set_other numbers n j v 0 differ) (all j (omega arith))
 
 -- a number and its mark
 pub marked-store :
-    (numbers marks : List ℕ) (n v : ℕ) → n < length numbers → length marks ≡ 1021 → Marked numbers marks n →
-    Marked (set numbers n v) (set marks (v % 1021) 1) (n + 1)
+    (numbers : List ℕ) (marks : List Bool) (n v : ℕ) → n < length numbers → length marks ≡ 1021 → Marked numbers marks n →
+    Marked (set numbers n v) (set marks (v % 1021) true) (n + 1)
 marked-store numbers marks n v room size all =
     let place : v % 1021 < length marks = omega arith in
-    marked_more numbers (set marks (v % 1021) 1) n v room
-    (λ z. let one : get_or (set marks (v % 1021) 1) (v % 1021) 0 ≡ 1 = get_or-set_same marks (v % 1021) 1 0 place in omega arith)
-    (marked-set numbers marks n (v % 1021) place all)
+    marked_more numbers (set marks (v % 1021) true) n v room (get_or-set_same marks (v % 1021) true false place) (marked-set numbers marks n (v % 1021) place all)
 
--- a number whose mark is 0 was not met
-module _ (numbers marks : List ℕ) (x a e p : ℕ) (hp : p ≡ x % 1021) (z : get_or marks p 0 ≡ 0) (all : Marked numbers marks e) where
+-- a number that has no mark was not met
+module _ (numbers : List ℕ) (marks : List Bool) (x a e p : ℕ) (hp : p ≡ x % 1021) (z : get_or marks p false ≡ false) (all : Marked numbers marks e) where
   unmarked-among : (n : ℕ) → a + n ≤ e → false ≡ member x (latest numbers a n)
   unfolding latest any_of Marked
   unmarked-among zero le = refl
   unmarked-among (suc n) le =
-      rw (ne_eqb x (get_or numbers (a + n) 0) (λ same. all (a + n) (omega arith) (ap (λ v. get_or marks (v % 1021) 0) (sym same) ∙ ap (λ q. get_or marks q 0) (sym hp) ∙ z)))
+      rw (ne_eqb x (get_or numbers (a + n) 0)
+      (λ same. true≢false
+      (sym (all (a + n) (omega arith)) ∙ ap (λ v. get_or marks (v % 1021) false) (sym same) ∙ ap (λ q. get_or marks q false) (sym hp) ∙ z)))
       (unmarked-among n (omega arith))
 
   pub unmarked : a ≤ e → false ≡ member x (latest numbers a (e - a))

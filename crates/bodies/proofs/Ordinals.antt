@@ -69,27 +69,28 @@ module _ (rules : OrdinalRules) (o t r : ℕ) (over : Tells rules.too_large o) (
   nameless-found sheet i tombstoned met s u hu = member-found [] sheet i tombstoned met false s u u hu (sym (found_none u))
 
 -- no rule is against a field's ordinal and name
-pub field-fine :
-    (sheet : List ℕ) (i ordinal : ℕ) (tombstoned met again : Bool) (vs : Violations) → ordinal ≡ value_in (record_bytes sheet i) →
-    (((not tombstoned && not met) && not again) && leb ordinal 65535) ≡ true →
+pub field_fine :
+    (sheet : List ℕ) (i ordinal : ℕ) (tombstoned met again allowed : Bool) (vs : Violations) → ordinal ≡ value_in (record_bytes sheet i) →
+    allowed ≡ ((not tombstoned && not met) && leb ordinal 65535) → (allowed && not again) ≡ true →
     Adds vs vs (member_found field_scheme tombstoned met again (view_at sheet i))
 unfolding member_found view_at flat_map
-field-fine sheet i ordinal true met again vs ho h = absurd (true≢false (sym h))
-field-fine sheet i ordinal false true again vs ho h = absurd (true≢false (sym h))
-field-fine sheet i ordinal false false true vs ho h = absurd (true≢false (sym h))
-field-fine sheet i ordinal false false false vs ho h =
-    let under : ltb 65535 (value_in (record_bytes sheet i)) ≡ false = ap (ltb 65535) (sym ho) ∙ le-ltb 65535 ordinal (leb-true ordinal 65535 h) in
+field_fine sheet i ordinal tombstoned met again false vs ho test h = absurd (true≢false (sym h))
+field_fine sheet i ordinal true met again true vs ho test h = absurd (true≢false test)
+field_fine sheet i ordinal false true again true vs ho test h = absurd (true≢false test)
+field_fine sheet i ordinal false false true true vs ho test h = absurd (true≢false (sym h))
+field_fine sheet i ordinal false false false true vs ho test h =
+    let under : ltb 65535 (value_in (record_bytes sheet i)) ≡ false = ap (ltb 65535) (sym ho) ∙ le-ltb 65535 ordinal (leb-true ordinal 65535 (sym test)) in
     rw under (adds_none vs)
 
 module _ (sheet : List ℕ) (i : ℕ) (tombstoned met : Bool) (old mid now : Violations) (reference : mid.list.ghost_name ≡ old.list.ghost_name) where
   -- the rules of a field's ordinal and name
-  pub field-members :
+  pub field_members :
       (again : Bool) → state_of mid ≡ push_ordinal (record { greatest = 65535; too_large = 15; reused = 16; duplicate = 14 }) sheet i tombstoned met (state_of old) →
       now.list.ghost_name ≡ mid.list.ghost_name →
       state_of now ≡ push_if again (record { class = 13; severity = 0; span = span_in (record_bytes sheet i) }) (state_of mid) →
       Adds old now (member_found field_scheme tombstoned met again (view_at sheet i))
   unfolding rule_row view_at
-  field-members again state same name = record {
+  field_members again state same name = record {
     reference = same ∙ reference;
     state =
         member-found (record { greatest = 65535; too_large = 15; reused = 16; duplicate = 14 }) 2 3 4 (λ p. refl) (λ p. refl) (λ p. refl)

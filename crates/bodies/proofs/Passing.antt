@@ -75,7 +75,7 @@ module _ (kind tomb : ℕ) (sheet : List ℕ) (a e : ℕ) where
 
   -- the start of the list
   pub known_start :
-      (numbers marks : List ℕ) (n : ℕ) → (tomb ≡ kind → ⊥) → e ≤ 1024 → length numbers ≡ 1024 → length marks ≡ 1021 → latest numbers 0 n ≡ narrow gone →
+      (numbers : List ℕ) (marks : List Bool) (n : ℕ) → (tomb ≡ kind → ⊥) → e ≤ 1024 → length numbers ≡ 1024 → length marks ≡ 1021 → latest numbers 0 n ≡ narrow gone →
       Marked numbers marks n → Known kind tomb sheet a e n numbers marks n a
   unfolding earlier latest select
   known_start numbers marks n ne small size₁ size₂ h m =
@@ -92,7 +92,7 @@ module _ (kind tomb : ℕ) (sheet : List ℕ) (a e : ℕ) where
         m,
       )
 
-  module _ (tombstones : ℕ) (numbers marks : List ℕ) (len i : ℕ) (k : Known kind tomb sheet a e tombstones numbers marks len i) where
+  module _ (tombstones : ℕ) (numbers : List ℕ) (marks : List Bool) (len i : ℕ) (k : Known kind tomb sheet a e tombstones numbers marks len i) where
     values-next : (b : Bool) → is kind (view_at sheet i) ≡ b → values (only_if b (view_at sheet i ∷ []) ++ before i) ≡ values_before kind sheet a (i + 1)
     values-next b t = ap values (sym (earlier-next kind sheet a i k.2 ∙ ap (λ b. only_if b (view_at sheet i ∷ []) ++ before i) t))
 
@@ -127,7 +127,8 @@ module _ (kind tomb : ℕ) (sheet : List ℕ) (a e : ℕ) where
   -- record i is an item, and its ordinal is to be met
   module _
       (tombstones : ℕ)
-      (numbers marks : List ℕ)
+      (numbers : List ℕ)
+      (marks : List Bool)
       (len i v : ℕ)
       (inside : i < e)
       (item : is kind (view_at sheet i) ≡ true)
@@ -160,11 +161,11 @@ module _ (kind tomb : ℕ) (sheet : List ℕ) (a e : ℕ) where
 
       module _ (n : ℕ) (small : v ≤ 4294967295) (hn : n ≡ v) where
         -- one that it does is kept
-        pub known-kept : Known kind tomb sheet a e tombstones (set numbers len n) (set marks (n % 1021) 1) (len + 1) (i + 1)
+        pub known-kept : Known kind tomb sheet a e tombstones (set numbers len n) (set marks (n % 1021) true) (len + 1) (i + 1)
         known-kept =
             let more : len + 1 - tombstones ≡ len - tombstones + 1 = omega (arith, k.3) in (
               length-set numbers len n ∙ k.0,
-              length-set marks (n % 1021) 1 ∙ k.1,
+              length-set marks (n % 1021) true ∙ k.1,
               omega (arith, k.2),
               omega (arith, k.3),
               omega (arith, k.4, left-member kind sheet i e inside item),
@@ -178,8 +179,8 @@ module _ (kind tomb : ℕ) (sheet : List ℕ) (a e : ℕ) where
               marked-store numbers marks len n (omega (arith, k.0, met-room)) k.1 k.7,
             )
 
-        -- and where its mark is 0, no record before has it
-        module _ (p : ℕ) (hp : p ≡ n % 1021) (z : get_or marks p 0 ≡ 0) where
+        -- and where it has no mark, no record before has it
+        module _ (p : ℕ) (hp : p ≡ n % 1021) (z : get_or marks p false ≡ false) where
           pub unmet-gone : false ≡ member v gone
           unmet-gone =
               kept-gone tombstones numbers len i v n met-asks small hn false

@@ -1,10 +1,10 @@
 -- The variants of an enum or a union: what is known before each record, and what is still to add.
-use Prim.Native.Nat.{ℕ, zero, suc, ◌+◌, ◌-◌, ◌≤◌, ◌<◌}
+use Prim.Native.Nat.{ℕ, ◌+◌, ◌-◌, ◌≤◌, ◌<◌}
 use native.Mathlib.Omega.{arith}
 use mathlib.Core.Path.{◌≡◌, refl, sym, ap, ap₂, subst, ◌∙◌}
 use mathlib.Core.Bool.{Bool, true, false, not, ◌&&◌}
 use mathlib.Core.List.{List, [], ◌++◌, append-nil, flat_map}
-use borrow.Author.Tests.{eqb-true, not-true}
+use borrow.Author.Tests.{eqb-true}
 use Rattle.rules.specs.declared.span.Span.{Span}
 use Rattle.rules.specs.Words.{only_if, any_of, member, front, Item, items}
 use Rattle.rules.specs.Kind
@@ -13,9 +13,8 @@ use Rattle.rules.specs.Context.{ValidationContext}
 use Rattle.rules.specs.Grammar.{starts_item}
 use Rattle.rules.specs.Rule.{Found}
 use Rattle.rules.specs.Bodies.{Scheme, enum_scheme, union_scheme, is_member, items_violations, list_violations, body_items, field_list_violations, union_violations}
-use Rattle.rules.proofs.Taken.{outside-is}
 use Rattle.names.specs.View.{view_at, view_of}
-use Rattle.names.specs.Known.{numbers_of, context_in, records_in}
+use Rattle.names.specs.Known.{context_in, records_in}
 use Rattle.diagnostic.specs.declared.violations.Violations.{Violations}
 use Rattle.diagnostic.specs.Violations.{state_of, Adds}
 use Rattle.diagnostic.proofs.Added.{adds_then}
@@ -24,17 +23,18 @@ use Rattle.bodies.specs.declared.whole.WholeRecords.{WholeRecords}
 use Rattle.bodies.specs.declared.seen.Seen.{Seen}
 use Rattle.bodies.specs.declared.seen.ItemList.{ItemList}
 use Rattle.bodies.specs.declared.seen.Meeting.{Meeting}
+use Rattle.bodies.specs.declared.seen.MetItem.{MetItem}
 use Rattle.bodies.specs.Seen.{Known}
-use Rattle.bodies.specs.Met.{sheet_of, tombstoned_in, met_before, KnownBefore}
+use Rattle.bodies.specs.Met.{sheet_of, IsItem, tombstoned_in, met_before, KnownBefore}
 use Rattle.bodies.specs.Earlier.{earlier}
-use Rattle.bodies.specs.Runs.{in_item, EndsAt, AllIn, RunTo}
-use Rattle.bodies.specs.Items.{variant_found}
+use Rattle.bodies.specs.Runs.{in_item, EndsAt, RunTo}
 use Rattle.bodies.specs.Ordinal.{push_ordinal, member_found}
 use Rattle.bodies.proofs.BodyItems.{item-member}
 use Rattle.bodies.proofs.Ordinals.{enum-members, union-members}
 use Rattle.bodies.proofs.Passing.{values, gone, before, known-other}
 use Rattle.bodies.proofs.Turns.{names_of, kind-is, kind-not, left, item_at, turn-member, turn-other, turn-inner, turn-none}
 use Rattle.bodies.proofs.Retired.{retired-items}
+use Rattle.bodies.proofs.WholeRecords.{has-ordinal, variant-has}
 use Rattle.bodies.proofs.FieldTurns.{member-tests}
 
 -- the kinds of a body
@@ -90,8 +90,8 @@ module _
         let none : a - a ≡ 0 = omega arith in
         rw none (ap (λ xs. items_violations ctx scheme own xs [] [] (items starts_item (view_of sheet a e))) (sym (retired-items (view_of sheet a e))))
 
-    pub variants-none : (seen : Seen) (vs : Violations) → seen.list ≡ variants_of → KnownBefore seen a → VariantsKnown seen vs vs a
-    variants-none seen vs list known = record {
+    pub variants_none : (seen : Seen) (vs : Violations) → seen.list ≡ variants_of → KnownBefore seen a → VariantsKnown seen vs vs a
+    variants_none seen vs list known = record {
       list = list;
       most = body.ordered;
       known = rw list at known;
@@ -117,29 +117,11 @@ module _
       }
 
       -- a record that is no variant
-      pub variants-other : (i kind : ℕ) → VariantsKnown seen old now i → i < e → kind ≡ kind_in (record_bytes sheet i) → (kind ≡ 14 → ⊥) → VariantsKnown seen old now (i + 1)
-      variants-other i kind k h hk ne = variants-next i k h (kind-not sheet i kind 14 hk ne)
+      pub variants_other : (i kind : ℕ) → VariantsKnown seen old now i → i < e → kind ≡ kind_in (record_bytes sheet i) → (kind ≡ 14 → ⊥) → VariantsKnown seen old now (i + 1)
+      variants_other i kind k h hk ne = variants-next i k h (kind-not sheet i kind 14 hk ne)
 
-      -- all records up to the next item
-      variants-parts :
-          (i n : ℕ) → VariantsKnown seen old now i → i + n ≤ e → AllIn in_item sheet i (i + n) → VariantsKnown seen old now (i + n)
-      unfolding AllIn
-      variants-parts i zero k h all = let none : i + 0 ≡ i = omega arith in rw none k
-      variants-parts i (suc n) k h all =
-          let more : i + suc n ≡ i + n + 1 = omega arith in
-          rw more
-          (variants-next (i + n) (variants-parts i n k (omega arith) (λ j l lt. all j l (omega arith))) (omega arith)
-          (outside-is Kind.Variant Kind.Tombstone Kind.Variant (at (i + n)).kind refl
-          (not-true (starts_item (at (i + n))) (all (i + n) (omega arith) (omega arith)))))
-
-      pub variants-to :
-          (i end : ℕ) → VariantsKnown seen old now i → i ≤ end → end ≤ e → AllIn in_item sheet i end → VariantsKnown seen old now end
-      variants-to i end k le h all =
-          let last : i + (end - i) ≡ end = omega arith in
-          rw last at (variants-parts i (end - i) k (omega arith) (rw (sym last) at all))
-
-      pub variants-end : (i : ℕ) → VariantsKnown seen old now i → e ≤ i → Adds old now (list_violations ctx scheme own (body_items (view_of sheet a e)))
-      variants-end i k h = leaves_none old now _ _ k.found (turn-none ctx scheme own starts_item 14 sheet a e tombs i h)
+      pub variants_end : (i : ℕ) → VariantsKnown seen old now i → e ≤ i → Adds old now (list_violations ctx scheme own (body_items (view_of sheet a e)))
+      variants_end i k h = leaves_none old now _ _ k.found (turn-none ctx scheme own starts_item 14 sheet a e tombs i h)
 
     -- no name is asked for
     names-free : (tombstoned met b c : Bool) (r : Rec ℕ Span) → member_found scheme tombstoned met b r ≡ member_found scheme tombstoned met c r
@@ -147,24 +129,25 @@ module _
     names-free tombstoned met b c r = rw plain refl
 
     -- a variant
-    module _ (seen : Seen) (old now : Violations) (i kind ordinal : ℕ) (k : VariantsKnown seen old now i) (h : i < e) (hk : kind ≡ kind_in (record_bytes sheet i)) (eq : kind ≡ 14) where
+    module _ (seen : Seen) (old now : Violations) (i kind : ℕ) (k : VariantsKnown seen old now i) (h : i < e) (hk : kind ≡ kind_in (record_bytes sheet i)) (eq : kind ≡ 14) where
       test : is Kind.Variant (at i) ≡ true
       test = kind-is sheet i kind 14 hk eq
 
-      pub meets-item : is seen.list.item (view_at (sheet_of seen.list) i) ≡ true
-      meets-item = rw k.list test
+      pub meets_variant : IsItem seen.list i
+      meets_variant = rw k.list (h, test, has-ordinal kind 14 (kind_in (record_bytes sheet i)) hk eq variant-has)
 
       pub variants-variant :
-          (seen' : Seen) (now' : Violations) (m : Meeting) → ordinal ≡ value_in (record_bytes sheet i) → seen'.list ≡ seen.list →
-          m.tombstoned ≡ tombstoned_in seen.list ordinal → m.met ≡ met_before seen.list i ordinal → KnownBefore seen' (i + 1) →
+          (seen' : Seen) (now' : Violations) (m : Meeting) → seen'.list ≡ seen.list →
+          m.tombstoned ≡ tombstoned_in seen.list (value_in (record_bytes (sheet_of seen.list) i)) →
+          m.met ≡ met_before seen.list i (value_in (record_bytes (sheet_of seen.list) i)) → KnownBefore seen' (i + 1) →
           Adds now now' (member_found scheme m.tombstoned m.met false (at i) ++ own (item_at ctx scheme own starts_item 14 sheet a e tombs i)) →
           VariantsKnown seen' old now' (i + 1)
       unfolding view_at
-      variants-variant seen' now' m ho same ht hm known' adds =
+      variants-variant seen' now' m same ht hm known' adds =
           let again : Bool = any_of (ctx.same (at i).name) (names_of (variants i)) in
           let whole : seen'.list ≡ variants_of = same ∙ k.list in
-          let dead : m.tombstoned ≡ member (value_in (record_bytes sheet i)) tombs = rw (k.list, ho) at ht in
-          let met : m.met ≡ member (value_in (record_bytes sheet i)) (values (variants i)) = rw (k.list, ho) at hm in
+          let dead : m.tombstoned ≡ member (value_in (record_bytes sheet i)) tombs = rw k.list at ht in
+          let met : m.met ≡ member (value_in (record_bytes sheet i)) (values (variants i)) = rw k.list at hm in
           record {
             list = whole;
             most = omega arith;
@@ -204,47 +187,58 @@ module _ (body : WholeRecords) where
   abbrev pub UnionKnown : Seen → Violations → Violations → ℕ → Type 0
   UnionKnown = VariantsKnown ctx union_scheme refl (union_own ctx) (union_nothing ctx) body
 
-  module _ (seen seen' : Seen) (old now now' : Violations) (i kind ordinal : ℕ) (m : Meeting) where
-    pub enum-variant :
-        EnumKnown seen old now i → i < body.range.end → kind ≡ kind_in (record_bytes body.context.sheet.now i) → kind ≡ 14 →
-        ordinal ≡ value_in (record_bytes body.context.sheet.now i) → seen'.list ≡ seen.list → m.tombstoned ≡ tombstoned_in seen.list ordinal →
-        m.met ≡ met_before seen.list i ordinal → KnownBefore seen' (i + 1) → now'.list.ghost_name ≡ now.list.ghost_name →
-        state_of now'
-        ≡ push_ordinal (record { greatest = 65535; too_large = 35; reused = 34; duplicate = 34 }) body.context.sheet.now i m.tombstoned m.met (state_of now) →
-        EnumKnown seen' old now' (i + 1)
-    enum-variant k h hk eq ho same ht hm known' reference state =
-        variants-variant ctx enum_scheme refl enum_own enum_nothing body seen old now i kind ordinal k h hk eq seen' now' m ho same ht hm known'
-        (rw append-nil (enum-members body.context.sheet.now i m.tombstoned m.met now now' now' reference state))
+  module _
+      (seen seen' : Seen)
+      (old now now' : Violations)
+      (i kind : ℕ)
+      (m : MetItem)
+      (h : i < body.range.end)
+      (hk : kind ≡ kind_in (record_bytes body.context.sheet.now i))
+      (eq : kind ≡ 14)
+      (same : seen'.list ≡ seen.list)
+      (hs : m.sheet ≡ seen.list.records.context.sheet)
+      (hi : m.index ≡ i)
+      (ht : m.meeting.tombstoned ≡ tombstoned_in seen.list (value_in (record_bytes (sheet_of seen.list) i)))
+      (hm : m.meeting.met ≡ met_before seen.list i (value_in (record_bytes (sheet_of seen.list) i)))
+      (known' : KnownBefore seen' (i + 1))
+    where
+      pub enum-variant :
+          EnumKnown seen old now i → now'.list.ghost_name ≡ now.list.ghost_name →
+          state_of now'
+          ≡ push_ordinal (record { greatest = 65535; too_large = 35; reused = 34; duplicate = 34 }) m.sheet.now m.index m.meeting.tombstoned m.meeting.met (state_of now) →
+          EnumKnown seen' old now' (i + 1)
+      enum-variant k reference state =
+          variants-variant ctx enum_scheme refl enum_own enum_nothing body seen old now i kind k h hk eq seen' now' m.meeting same ht hm known'
+          (rw append-nil (enum-members body.context.sheet.now i m.meeting.tombstoned m.meeting.met now now' now' reference (rw (hs, k.list, hi) at state)))
 
-    pub union-variant :
-        (end : ℕ) → UnionKnown seen old now i → i < body.range.end → kind ≡ kind_in (record_bytes body.context.sheet.now i) → kind ≡ 14 →
-        ordinal ≡ value_in (record_bytes body.context.sheet.now i) → seen'.list ≡ seen.list → m.tombstoned ≡ tombstoned_in seen.list ordinal →
-        m.met ≡ met_before seen.list i ordinal → KnownBefore seen' (i + 1) → RunTo in_item body.context.sheet.now (i + 1) body.range.end end →
-        Adds now now' (variant_found (numbers_of body.context) body.context.sheet.now i end m.tombstoned m.met) → UnionKnown seen' old now' end
-    unfolding variant_found EndsAt
-    union-variant end k h hk eq ho same ht hm known' ends adds =
-        let sheet = body.context.sheet.now in
-        let variant : is Kind.Variant (view_at sheet i) ≡ true = kind-is sheet i kind 14 hk eq in
-        variants-to ctx union_scheme refl (union_own ctx) (union_nothing ctx) body seen' old now' (i + 1) end
-        (variants-variant ctx union_scheme refl (union_own ctx) (union_nothing ctx) body seen old now i kind ordinal k h hk eq seen' now' m ho same ht hm known'
-        (subst (λ (fs : List (Found Span)). Adds now now' (member_found union_scheme m.tombstoned m.met false (view_at sheet i) ++ fs))
-        (ap (field_list_violations ctx) ends.0.0
-        ∙ ap (λ b. only_if b (field_list_violations ctx (front (λ r. not (starts_item r)) (view_of sheet (i + 1) body.range.end)))) (sym variant)) adds))
-        (ends.2 (omega arith)) ends.1 ends.3
+      pub union-variant :
+          (end : ℕ) → UnionKnown seen old now i → RunTo in_item body.context.sheet.now (i + 1) body.range.end end →
+          Adds now now'
+          (member_found union_scheme m.meeting.tombstoned m.meeting.met false (view_at m.sheet.now m.index)
+          ++ field_list_violations ctx (view_of body.context.sheet.now (i + 1) end)) →
+          UnionKnown seen' old now' (i + 1)
+      unfolding EndsAt
+      union-variant end k ends adds =
+          let sheet = body.context.sheet.now in
+          let variant : is Kind.Variant (view_at sheet i) ≡ true = kind-is sheet i kind 14 hk eq in
+          variants-variant ctx union_scheme refl (union_own ctx) (union_nothing ctx) body seen old now i kind k h hk eq seen' now' m.meeting same ht hm known'
+          (subst (λ (fs : List (Found Span)). Adds now now' (member_found union_scheme m.meeting.tombstoned m.meeting.met false (view_at sheet i) ++ fs))
+          (ap (field_list_violations ctx) ends.0.0
+          ∙ ap (λ b. only_if b (field_list_violations ctx (front (λ r. not (starts_item r)) (view_of sheet (i + 1) body.range.end)))) (sym variant))
+          (rw (hs, k.list, hi) at adds))
 
 pub union-end :
     (body : WholeRecords) (seen : Seen) (old now : Violations) (i : ℕ) → UnionKnown body seen old now i → body.range.end ≤ i →
     Adds old now (union_violations (context_in body.context) (records_in body.context body.range))
 unfolding union_violations
 union-end body seen old now i k h =
-    variants-end (context_in body.context) union_scheme refl (union_own (context_in body.context)) (union_nothing (context_in body.context)) body seen old now i k h
+    variants_end (context_in body.context) union_scheme refl (union_own (context_in body.context)) (union_nothing (context_in body.context)) body seen old now i k h
 
 -- the ordinal, and then the fields
-pub variant-adds :
-    (body : WholeRecords) (i end : ℕ) (m : Meeting) (old mid now : Violations) → mid.list.ghost_name ≡ old.list.ghost_name →
-    state_of mid ≡ push_ordinal (record { greatest = 65535; too_large = 43; reused = 42; duplicate = 42 }) body.context.sheet.now i m.tombstoned m.met (state_of old) →
-    Adds mid now (field_list_violations (context_in body.context) (view_of body.context.sheet.now (i + 1) end)) →
-    Adds old now (variant_found (numbers_of body.context) body.context.sheet.now i end m.tombstoned m.met)
-unfolding variant_found
-variant-adds body i end m old mid now reference state fields =
-    adds_then old mid now _ _ (union-members body.context.sheet.now i m.tombstoned m.met old mid mid reference state) fields
+pub variant_adds :
+    (m : MetItem) (old mid now : Violations) (fields : List (Found Span)) → mid.list.ghost_name ≡ old.list.ghost_name →
+    state_of mid
+    ≡ push_ordinal (record { greatest = 65535; too_large = 43; reused = 42; duplicate = 42 }) m.sheet.now m.index m.meeting.tombstoned m.meeting.met (state_of old) →
+    Adds mid now fields → Adds old now (member_found union_scheme m.meeting.tombstoned m.meeting.met false (view_at m.sheet.now m.index) ++ fields)
+variant_adds m old mid now fields reference state adds =
+    adds_then old mid now _ _ (union-members m.sheet.now m.index m.meeting.tombstoned m.meeting.met old mid mid reference state) adds

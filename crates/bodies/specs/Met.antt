@@ -1,7 +1,9 @@
 -- What is kept of a list.
-use Rattle.std.specs.Prelude.{ℕ, Bool, List}
+use Rattle.std.specs.Prelude.{ℕ, ◌<◌, ◌≡◌, Bool, true, List}
 use Rattle.rules.specs.Words.{member}
-use Rattle.names.specs.View.{view_of}
+use Rattle.rules.specs.Kind
+use Rattle.rules.specs.Record.{is, kind_in, record_bytes}
+use Rattle.names.specs.View.{view_at, view_of}
 use Rattle.bodies.specs.declared.seen.ItemList.{ItemList}
 use Rattle.bodies.specs.declared.seen.Seen.{Seen}
 use Rattle.bodies.specs.Earlier.{values_of, values_before}
@@ -16,6 +18,13 @@ start_of list = list.records.range.start
 
 abbrev pub end_of : ItemList → ℕ
 end_of list = list.records.range.end
+
+-- record i is an item of the list, and has an ordinal
+abbrev pub IsItem : ItemList → ℕ → Type 0
+IsItem list i =
+    (i < end_of list)
+    × (is list.item (view_at (sheet_of list) i) ≡ true)
+    × (Kind.has_ordinal (kind_in (record_bytes (sheet_of list) i)) ≡ true)
 
 -- a tombstone of the list has the ordinal
 abbrev pub tombstoned_in : ItemList → ℕ → Bool

@@ -18,19 +18,14 @@ use sheet::kinds;
 fn check_variants(body: WholeRecords, violations: &mut Violations)
     ensures { Adds violations.old violations.new (list_violations (context_in body.entry.context) enum_scheme (λ it. []) (body_items (records_in body.entry.context body.entry.range))) }
 {
-    let mut seen = Seen::new(ItemList {
-        records: body,
-        item: kinds::VARIANT,
-        tombstone: kinds::TOMBSTONE,
-    });
+    let mut seen = Seen::new(ItemList::variants(body));
     seen.collect();
     for i in body.range.start..body.range.end {
         if body.kind(i) != kinds::VARIANT {
             continue;
         }
-        let ordinal = body.ordinal(i);
-        let meeting = seen.meet(i, ordinal);
-        OrdinalRules::ENUM.check(body.context.sheet, violations, i, ordinal, meeting);
+        let variant = seen.meet(i);
+        OrdinalRules::ENUM.check(violations, variant);
     }
 }
 

@@ -1,7 +1,7 @@
 // A field list: rules 1 to 30.
 ghost use Rattle.std.specs.Prelude.{◌≡◌, ◌≤◌};
 ghost use Rattle.rules.specs.Kind;
-ghost use Rattle.rules.specs.Record.{is, value_in, record_bytes};
+ghost use Rattle.rules.specs.Record.{is};
 ghost use Rattle.rules.specs.Rule.{found_if};
 ghost use Rattle.rules.specs.Bodies.{field_scheme, field_violations, field_list_violations};
 ghost use Rattle.names.specs.Known.{context_in, records_in};
@@ -12,11 +12,11 @@ ghost use Rattle.bodies.specs.Runs.{in_field, RunTo};
 
 use crate::field::{check_bare, check_field, field_parts, is_bare};
 use crate::ordinal::OrdinalRules;
-use crate::seen::{ItemList, Meeting, Seen};
+use crate::seen::{ItemList, MetItem, Seen};
 use crate::whole::WholeRecords;
 use annotations::MetNames;
 use diagnostic::Violations;
-use rules::{Sheet, Violation};
+use rules::Violation;
 use sheet::kinds;
 
 // Adds rule 1, if record `i` is an invariant.
@@ -27,28 +27,23 @@ fn check_invariant(sheet: &[u8], violations: &mut Violations, i: usize)
     violations.error_if(bad, sheet, i, Violation::InvariantUnsupported);
 }
 
-// Adds what is wrong with the ordinal and the name of the field at record `i`: rules 2 to 5.
+// Adds what is wrong with the ordinal and the name of the field: rules 2 to 5.
 #[inline(always)]
-pub fn check_ordinal_and_name(
-    sheet: &[u8],
-    violations: &mut Violations,
-    i: usize,
-    ordinal: u64,
-    meeting: Meeting,
-    renamed: bool,
-)
-    requires { ordinal ≡ value_in (record_bytes sheet.now i) }
-    ensures { Adds violations.old violations.new (member_found field_scheme meeting.tombstoned meeting.met renamed (view_at sheet.now i)) }
+#[tactic(auto, using(crate::proofs::Ordinals::field_fine))]
+pub fn check_ordinal_and_name(violations: &mut Violations, field: MetItem, renamed: bool)
+    ensures { Adds violations.old violations.new (member_found field_scheme field.entry.meeting.tombstoned field.entry.meeting.met renamed (view_at field.entry.sheet.now field.entry.index)) }
 {
-    let fine = !meeting.tombstoned
-        & !meeting.met
-        & !renamed
-        & (ordinal <= Sheet::MAX_FIELD_ORDINAL);
+    let fine = OrdinalRules::FIELD.allow(field) & !renamed;
     if fine {
         return;
     }
-    OrdinalRules::FIELD.tell(sheet, violations, i, meeting);
-    violations.error_if(renamed, sheet, i, Violation::FieldNameDuplicate);
+    OrdinalRules::FIELD.tell(violations, field);
+    violations.error_if(
+        renamed,
+        field.sheet,
+        field.index,
+        Violation::FieldNameDuplicate,
+    );
 }
 
 // Adds what is wrong with the parts of the field that the records start with, which is not bare, and returns where they end.
@@ -84,11 +79,7 @@ pub fn check_message_body<'a>(
     ensures { Adds violations.old violations.new (field_list_violations (context_in fields.entry.context) (records_in fields.entry.context fields.entry.range)) }
 {
     names.restart(fields.context, kinds::FIELD, fields.range.start);
-    let mut seen = Seen::new(ItemList {
-        records: fields,
-        item: kinds::FIELD,
-        tombstone: kinds::FIELD_TOMBSTONE,
-    });
+    let mut seen = Seen::new(ItemList::fields(fields));
     seen.collect();
     let mut i = fields.range.start;
     // a `for` cannot step by what it reads
@@ -98,17 +89,9 @@ pub fn check_message_body<'a>(
             i += 1;
             continue;
         }
-        let ordinal = fields.ordinal(i);
-        let meeting = seen.meet(i, ordinal);
+        let field = seen.meet(i);
         let renamed = names.is_met(i);
-        check_ordinal_and_name(
-            fields.context.sheet,
-            violations,
-            i,
-            ordinal,
-            meeting,
-            renamed,
-        );
+        check_ordinal_and_name(violations, field, renamed);
         i = check_parts(fields.from(i + 1), violations);
     }
 }

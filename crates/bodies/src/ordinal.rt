@@ -1,14 +1,14 @@
 // What is wrong with an ordinal.
-ghost use Rattle.std.specs.Prelude.{◌≡◌};
-ghost use Rattle.rules.specs.Record.{value_in, record_bytes};
+ghost use Rattle.std.specs.Prelude.{◌≡◌, not, ◌&&◌, leb};
 ghost use Rattle.diagnostic.specs.Violations.{state_of};
 ghost use Rattle.bodies.specs.Ordinal.{push_ordinal};
 
-use crate::seen::Meeting;
+use crate::seen::MetItem;
 use diagnostic::Violations;
 use rules::{Sheet, Violation};
 
-// The greatest ordinal of a list, and the classes of one that is over it, of one that a tombstone has, and of one that is met already.
+// The greatest ordinal of a list, and the classes of one that is over it, of one that a tombstone has, and of one that is met already. Rules 2, 31 and 35 each
+// name a greatest, which today is the same.
 #[derive(Clone, Copy)]
 pub struct OrdinalRules {
     pub greatest: u64,
@@ -42,37 +42,35 @@ impl OrdinalRules {
         duplicate: Violation::UnionOrdinalDuplicate,
     };
 
-    // Adds what is wrong with the ordinal of record `i`, test by test.
-    #[tactic(auto, unfolding(crate::specs::Ordinal::push_ordinal))]
-    pub fn tell(self, sheet: &[u8], violations: &mut Violations, i: usize, meeting: Meeting)
-        ensures reference { violations.new.list.ghost_name ≡ violations.old.list.ghost_name }
-        ensures state { state_of violations.new ≡ push_ordinal self sheet.now i meeting.tombstoned meeting.met (state_of violations.old) }
+    // Whether nothing is wrong with the ordinal of the item.
+    pub fn allow(self, item: MetItem) -> bool
+        ensures { result ≡ ((not item.entry.meeting.tombstoned && not item.entry.meeting.met) && leb item.entry.ordinal self.greatest) }
     {
-        let span = sheet::ordinal_span(sheet, i);
-        let over = self.greatest < sheet::value(sheet, i);
+        !item.meeting.tombstoned & !item.meeting.met & (item.ordinal <= self.greatest)
+    }
+
+    // Adds what is wrong with the ordinal of the item, test by test.
+    #[tactic(auto, unfolding(crate::specs::Ordinal::push_ordinal))]
+    pub fn tell(self, violations: &mut Violations, item: MetItem)
+        ensures reference { violations.new.list.ghost_name ≡ violations.old.list.ghost_name }
+        ensures state { state_of violations.new ≡ push_ordinal self item.entry.sheet.now item.entry.index item.entry.meeting.tombstoned item.entry.meeting.met (state_of violations.old) }
+    {
+        let span = sheet::ordinal_span(item.sheet, item.index);
+        let over = self.greatest < item.ordinal;
         violations.push_if(over, Violation::error(span, self.too_large));
-        violations.push_if(meeting.tombstoned, Violation::error(span, self.reused));
-        let again = !meeting.tombstoned & meeting.met;
+        violations.push_if(item.meeting.tombstoned, Violation::error(span, self.reused));
+        let again = !item.meeting.tombstoned & item.meeting.met;
         violations.push_if(again, Violation::error(span, self.duplicate));
     }
 
-    // Adds what is wrong with the ordinal of record `i`, which is that number.
+    // Adds what is wrong with the ordinal of the item.
     #[tactic(auto, unfolding(crate::specs::Ordinal::push_ordinal, diagnostic::specs::Push::push_if))]
-    pub fn check(
-        self,
-        sheet: &[u8],
-        violations: &mut Violations,
-        i: usize,
-        ordinal: u64,
-        meeting: Meeting,
-    )
-        requires { ordinal ≡ value_in (record_bytes sheet.now i) }
+    pub fn check(self, violations: &mut Violations, item: MetItem)
         ensures reference { violations.new.list.ghost_name ≡ violations.old.list.ghost_name }
-        ensures state { state_of violations.new ≡ push_ordinal self sheet.now i meeting.tombstoned meeting.met (state_of violations.old) }
+        ensures state { state_of violations.new ≡ push_ordinal self item.entry.sheet.now item.entry.index item.entry.meeting.tombstoned item.entry.meeting.met (state_of violations.old) }
     {
-        if !meeting.tombstoned & !meeting.met & (ordinal <= self.greatest) {
-            return;
+        if !self.allow(item) {
+            self.tell(violations, item);
         }
-        self.tell(sheet, violations, i, meeting);
     }
 }

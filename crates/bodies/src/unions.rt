@@ -1,15 +1,15 @@
 // A union: rules 35 and 36, and the fields of its variants.
-ghost use Rattle.std.specs.Prelude.{◌≡◌, ◌<◌};
-ghost use Rattle.rules.specs.Record.{value_in, record_bytes};
-ghost use Rattle.rules.specs.Bodies.{field_list_violations, union_violations};
-ghost use Rattle.names.specs.Known.{numbers_of, context_in, records_in};
+ghost use Rattle.std.specs.Prelude.{◌++◌, false};
+ghost use Rattle.rules.specs.Bodies.{field_list_violations, union_scheme, union_violations};
+ghost use Rattle.names.specs.Known.{context_in, records_in};
+ghost use Rattle.names.specs.View.{view_at};
 ghost use Rattle.diagnostic.specs.Violations.{Adds};
-ghost use Rattle.bodies.specs.Items.{variant_found};
+ghost use Rattle.bodies.specs.Ordinal.{member_found};
 
 use crate::message::{check_message_body, check_ordinal_and_name, check_parts};
 use crate::ordinal::OrdinalRules;
 use crate::runs::{is_field_part, is_variant_part, run_end};
-use crate::seen::{ItemList, Meeting, Seen};
+use crate::seen::{ItemList, Meeting, MetItem, Seen};
 use crate::whole::WholeRecords;
 use annotations::MetNames;
 use diagnostic::Violations;
@@ -31,62 +31,42 @@ fn check_fields<'a>(fields: WholeRecords<'a>, violations: &mut Violations, names
         check_message_body(fields, violations, names);
         return;
     }
-    let ordinal = fields.ordinal(field);
-    let meeting = Meeting {
-        tombstoned: false,
-        met: false,
+    let single = MetItem {
+        sheet: fields.context.sheet,
+        index: field,
+        ordinal: fields.ordinal(field),
+        meeting: Meeting::NONE,
     };
-    check_ordinal_and_name(
-        fields.context.sheet,
-        violations,
-        field,
-        ordinal,
-        meeting,
-        false,
-    );
+    check_ordinal_and_name(violations, single, false);
     check_parts(rest, violations);
 }
 
-// Adds what is wrong with the variant, whose ordinal is that number, by the names lent for its fields.
+// Adds what is wrong with the variant that has those fields, by the names lent for them.
 fn check_variant<'a>(
-    variant: WholeRecords<'a>,
+    variant: MetItem,
+    fields: WholeRecords<'a>,
     violations: &mut Violations,
     names: &mut MetNames<'a>,
-    ordinal: u64,
-    meeting: Meeting,
 )
-    requires some { variant.range.start < variant.range.end }
-    requires read { ordinal ≡ value_in (record_bytes variant.context.sheet.now variant.range.start) }
-    ensures { Adds violations.old violations.new (variant_found (numbers_of variant.entry.context) variant.entry.context.sheet.now variant.entry.range.start variant.entry.range.end meeting.tombstoned meeting.met) }
+    ensures { Adds violations.old violations.new (member_found union_scheme variant.entry.meeting.tombstoned variant.entry.meeting.met false (view_at variant.entry.sheet.now variant.entry.index) ++ field_list_violations (context_in fields.entry.context) (records_in fields.entry.context fields.entry.range)) }
 {
-    let item = variant.range.start;
-    OrdinalRules::UNION.check(variant.context.sheet, violations, item, ordinal, meeting);
-    check_fields(variant.from(item + 1), violations, names);
+    OrdinalRules::UNION.check(violations, variant);
+    check_fields(fields, violations, names);
 }
 
 // Adds what is wrong with the union. The names of fields are kept in one place, which serves one variant after the other.
 pub fn check_union(body: WholeRecords, violations: &mut Violations)
     ensures { Adds violations.old violations.new (union_violations (context_in body.entry.context) (records_in body.entry.context body.entry.range)) }
 {
-    let mut seen = Seen::new(ItemList {
-        records: body,
-        item: kinds::VARIANT,
-        tombstone: kinds::TOMBSTONE,
-    });
+    let mut seen = Seen::new(ItemList::variants(body));
     seen.collect();
     let mut names = MetNames::new(body.context, kinds::FIELD, body.range.start);
-    let mut i = body.range.start;
-    // a `for` cannot step by what it reads
-    while i < body.range.end {
+    for i in body.range.start..body.range.end {
         if body.kind(i) != kinds::VARIANT {
-            i += 1;
             continue;
         }
-        let ordinal = body.ordinal(i);
-        let meeting = seen.meet(i, ordinal);
+        let variant = seen.meet(i);
         let end = run_end(body.from(i + 1), is_variant_part);
-        let variant = body.part(i, end);
-        check_variant(variant, violations, &mut names, ordinal, meeting);
-        i = end;
+        check_variant(variant, body.part(i + 1, end), violations, &mut names);
     }
 }

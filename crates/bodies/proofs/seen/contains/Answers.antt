@@ -1,5 +1,5 @@
 -- The library asks a few numbers, and the windows leave no gap in more.
-use Rattle.std.proofs.Common.{◌≡◌, ◌+◌, ◌-◌, ◌*◌, ◌/◌, length, refl, arith}
+use Rattle.std.proofs.Common.{◌≡◌, ◌+◌, ◌-◌, ◌*◌, length, refl, arith}
 use Rattle.bodies.proofs.Marks.{few-all, windows-none, windows-next, windows-all}
 use Rattle.bodies.proofs.seen.contains.Goals as goal
 
@@ -19,5 +19,5 @@ returns c =
     let size = length c.args.numbers.now in
     let whole : size - 0 ≡ size = omega arith in
     rw whole at
-    (windows-all c.args.numbers.now c.args.number 0 size ((size + 15) / 16 * 8) _ c.loop-i.i _ (omega arith) c.loop-i.invariant (omega arith) (omega arith) (omega arith)
+    (windows-all c.args.numbers.now c.args.number 0 size (c.div_ceil-window.result * 8) _ c.loop-i.i _ (omega arith) c.loop-i.invariant (omega arith) (omega arith) (omega arith)
     (omega arith) refl)

@@ -9,8 +9,8 @@ use Rattle.bodies.proofs.unions.check_fields.Goals as goal
 pub returns-then-is_empty : goal.returns-then-is_empty
 returns-then-is_empty c = fields-empty c.args.fields _ (search rules)
 
-pub ordinal-ordinal-requires-clause-numbered : goal.ordinal-ordinal-requires-clause-numbered
-ordinal-ordinal-requires-clause-numbered c = single-has _ _ _ _ c.kind.ensures c.if-several.false
+pub ordinal-requires-clause-numbered : goal.ordinal-requires-clause-numbered
+ordinal-requires-clause-numbered c = single-has _ _ _ _ c.kind.ensures c.if-several.false
 
 pub returns : goal.returns
 returns c =

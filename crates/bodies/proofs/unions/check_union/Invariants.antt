@@ -1,10 +1,6 @@
 -- What is known before record `i`, and what is still to add.
-use Rattle.std.proofs.Common.{◌-◌}
 use Rattle.bodies.proofs.Variants.{UnionKnown}
 use Rattle.bodies.proofs.unions.check_union.Given as goal
 
 abbrev pub invariant-loop-i : goal.invariant-loop-i
 invariant-loop-i l = UnionKnown l.body l.seen l.initial.violations l.violations l.i
-
-abbrev pub decreases-loop-i : goal.decreases-loop-i
-decreases-loop-i l = l.body.range.end - l.i

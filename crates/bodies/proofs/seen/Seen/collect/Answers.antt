@@ -13,18 +13,17 @@ pub loop-i-preserved-then-kind-list : goal.loop-i-preserved-then-kind-list
 loop-i-preserved-then-kind-list c =
     (c.loop-i.invariant.0, collected-other _ _ _ _ _ _ _ _ _ c.loop-i.invariant.1 c.loop-i-test.true c.kind.ensures c.if-kind-list.true)
 
-pub loop-i-preserved-then-ordinal-gt-MAX_ORDINAL : goal.loop-i-preserved-then-ordinal-gt-MAX_ORDINAL
-loop-i-preserved-then-ordinal-gt-MAX_ORDINAL c = (
+pub loop-i-preserved-in_default : goal.loop-i-preserved-in_default
+loop-i-preserved-in_default c = (
   c.loop-i.invariant.0,
-  collected-out _ _ _ _ _ _ _ _ _ c.loop-i.invariant.1 c.loop-i-test.true c.kind.ensures _ c.if-kind-list.false c.value-ordinal.ensures
-      c.if-ordinal-gt-MAX_ORDINAL.true,
+  collected-out _ _ _ _ _ _ _ _ _ c.loop-i.invariant.1 c.loop-i-test.true c.kind.ensures _ c.if-kind-list.false c.value.ensures (omega arith),
 )
 
 pub loop-i-preserved : goal.loop-i-preserved
 loop-i-preserved c = (
   c.keep.ensures.list ∙ c.loop-i.invariant.0,
   collected-kept _ _ _ _ _ _ _ _ _ c.loop-i.invariant.1 c.loop-i-test.true c.kind.ensures _ _ _ _ _ c.args.self.now.list.records.few c.if-kind-list.false
-      c.value-ordinal.ensures c.if-ordinal-gt-MAX_ORDINAL.false c.short.ensures c.keep.ensures.ordinals c.keep.ensures.marks c.keep.ensures.len,
+      c.value.ensures (omega arith) c.in-Ok.ensures.1 c.keep.ensures.ordinals c.keep.ensures.marks c.keep.ensures.len,
 )
 
 pub returns-clause-known : goal.returns-clause-known

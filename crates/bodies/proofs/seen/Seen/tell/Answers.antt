@@ -6,21 +6,20 @@ use Rattle.bodies.proofs.Among.{among-values, among-before}
 use Rattle.bodies.proofs.Passing.{kept-gone, kept-before}
 use Rattle.bodies.proofs.seen.Seen.tell.Goals as goal
 
-pub returns-then-ordinal-gt-MAX_ORDINAL-clause-tombstoned : goal.returns-then-ordinal-gt-MAX_ORDINAL-clause-tombstoned
-returns-then-ordinal-gt-MAX_ORDINAL-clause-tombstoned c = among-values _ _ _ _ _ _ c.is_among.ensures.found c.is_among.ensures.none
+pub returns-in_default-clause-tombstoned : goal.returns-in_default-clause-tombstoned
+returns-in_default-clause-tombstoned c = among-values _ _ _ _ _ _ c.is_among.ensures
 
-pub returns-then-ordinal-gt-MAX_ORDINAL-clause-met : goal.returns-then-ordinal-gt-MAX_ORDINAL-clause-met
-returns-then-ordinal-gt-MAX_ORDINAL-clause-met c =
-    among-before _ _ _ _ _ _ c.is_among-then-ordinal-gt-MAX_ORDINAL.ensures.found c.is_among-then-ordinal-gt-MAX_ORDINAL.ensures.none
+pub returns-in_default-clause-met : goal.returns-in_default-clause-met
+returns-in_default-clause-met c = among-before _ _ _ _ _ _ c.is_among-in_default.ensures
 
 pub returns-clause-tombstoned : goal.returns-clause-tombstoned
 returns-clause-tombstoned c =
     let seen = c.args.self.now in
-    kept-gone _ _ _ _ _ _ _ _ _ _ _ c.requires c.if-ordinal-gt-MAX_ORDINAL.false c.short-number.ensures _
-    (c.contains.ensures ∙ ap (member c.short-number.result) (latest-front seen.ordinals seen.tombstones (omega arith)))
+    kept-gone _ _ _ _ _ _ _ _ _ _ _ c.requires (omega arith) c.in-Ok.ensures.1 _
+    (c.contains.ensures ∙ ap (member c.in-Ok.number) (latest-front seen.ordinals seen.tombstones (omega arith)))
 
 pub returns-clause-met : goal.returns-clause-met
 returns-clause-met c =
     let seen = c.args.self.now in
-    kept-before _ _ _ _ _ _ _ _ _ _ _ c.requires c.if-ordinal-gt-MAX_ORDINAL.false c.short-number.ensures _
-    (c.contains-2.ensures ∙ ap (member c.short-number.result) (latest-part seen.ordinals seen.tombstones (seen.len - seen.tombstones) (omega arith)))
+    kept-before _ _ _ _ _ _ _ _ _ _ _ c.requires (omega arith) c.in-Ok.ensures.1 _
+    (c.contains-2.ensures ∙ ap (member c.in-Ok.number) (latest-part seen.ordinals seen.tombstones (seen.len - seen.tombstones) (omega arith)))

@@ -1,0 +1,42 @@
+-- An ordinal that has no mark was not met, and of the others it is told.
+use Rattle.std.proofs.Common.{arith}
+use Rattle.bodies.proofs.Passing.{met-room, met-asks, known-out, unmet-gone, unmet-before}
+use Rattle.bodies.proofs.Kept.{kept-known}
+use Rattle.bodies.proofs.seen.Seen.meet_ordinal.Goals as goal
+
+pub tell-requires : goal.tell-requires
+tell-requires c = met-asks _ _ _ _ _ _ _ _ _ _ _ c.requires.item.0 c.requires.item.1 c.requires.read c.requires.known
+
+pub returns-in_default-clause-known : goal.returns-in_default-clause-known
+returns-in_default-clause-known c =
+    known-out _ _ _ _ _ _ _ _ _ _ _ c.requires.item.0 c.requires.item.1 c.requires.read c.requires.known (omega arith)
+
+pub tell-told-requires : goal.tell-told-requires
+tell-told-requires c =
+    met-asks _ _ _ _ _ _ _ _ _ _ _ c.requires.item.0 c.requires.item.1 c.requires.read c.requires.known
+
+pub keep-requires : goal.keep-requires
+keep-requires c = met-room _ _ _ _ _ _ _ _ _ _ _ c.requires.item.0 c.requires.item.1 c.requires.read c.requires.known
+
+pub returns-then-self-mark-clause-known : goal.returns-then-self-mark-clause-known
+returns-then-self-mark-clause-known c =
+    kept-known _ _ _ _ _ c.requires.item.0 c.requires.item.1 c.requires.read c.requires.known (omega arith) c.in-Ok.ensures.1
+    c.keep.ensures.list c.keep.ensures.ordinals c.keep.ensures.marks c.keep.ensures.tombstones c.keep.ensures.len
+
+pub keep-requires-2 : goal.keep-requires-2
+keep-requires-2 c = met-room _ _ _ _ _ _ _ _ _ _ _ c.requires.item.0 c.requires.item.1 c.requires.read c.requires.known
+
+pub returns-clause-tombstoned : goal.returns-clause-tombstoned
+returns-clause-tombstoned c =
+    unmet-gone _ _ _ _ _ _ _ _ _ _ _ c.requires.item.0 c.requires.item.1 c.requires.read c.requires.known _ (omega arith) c.in-Ok.ensures.1 _ c.mark.ensures.0
+    c.if-self-mark.false
+
+pub returns-clause-met : goal.returns-clause-met
+returns-clause-met c =
+    unmet-before _ _ _ _ _ _ _ _ _ _ _ c.requires.item.0 c.requires.item.1 c.requires.read c.requires.known _ (omega arith) c.in-Ok.ensures.1 _ c.mark.ensures.0
+    c.if-self-mark.false
+
+pub returns-clause-known : goal.returns-clause-known
+returns-clause-known c =
+    kept-known _ _ _ _ _ c.requires.item.0 c.requires.item.1 c.requires.read c.requires.known (omega arith) c.in-Ok.ensures.1
+    c.keep-2.ensures.list c.keep-2.ensures.ordinals c.keep-2.ensures.marks c.keep-2.ensures.tombstones c.keep-2.ensures.len
