@@ -1,10 +1,12 @@
 -- Rule 33: a backing is too narrow if some variant's ordinal is over the greatest that it holds.
-use Prim.Native.Nat.{ℕ, ◌+◌, ◌<◌, ◌≤◌}
+use Prim.Native.Nat.{ℕ, zero, suc, ◌+◌, ◌-◌, ◌<◌, ◌≤◌}
 use mathlib.Core.Path.{◌≡◌, refl, sym, ap, ◌∙◌}
-use mathlib.Core.Bool.{Bool, true, false, not, ◌&&◌, ◌||◌, or-false}
+use mathlib.Core.Bool.{Bool, true, false, not, ◌&&◌, ◌||◌, or-false, or-true}
 use mathlib.Core.List.{List, [], ◌∷◌, ◌++◌, flat_map}
-use lib.Dec.{eqb, ltb}
-use borrow.Author.Tests.{eq-eqb, ne_eqb}
+use native.Mathlib.Decide.{ℕ_discrete}
+use native.Mathlib.Omega.{arith}
+use lib.Dec.{eqb, leb, ltb}
+use borrow.Author.Tests.{eq-eqb, ne_eqb, leb-true, leb-false}
 use Rattle.rules.specs.declared.span.Span.{Span}
 use Rattle.rules.specs.Words.{only_if, any_of, select, front, Item, items}
 use Rattle.rules.specs.Kind
@@ -20,6 +22,7 @@ use Rattle.diagnostic.specs.Push.{push_if}
 use Rattle.diagnostic.specs.Violations.{state_of, Adds}
 use Rattle.diagnostic.proofs.Added.{adds_none, adds_then, adds_if}
 use Rattle.types.proofs.Views.{view-cons, view-none}
+use Rattle.annotations.proofs.Asked.{SomeFrom}
 use Rattle.bodies.specs.Backing.{narrow_found, backings_from}
 use Rattle.bodies.proofs.BodyItems.{item-member, no_item}
 
@@ -52,34 +55,44 @@ module _ (p : ℕ → Bool) where
           ∙ rw (slot-used (is_member r) (is_tombstone r) r.value, item-member r st, any-slots used_ordinal p (body_items rs)))
       go false st = rw (st, items, no_item r st)
 
--- whether an ordinal in use from record i on is over the greatest
+-- whether an ordinal in use from record i on is over the greatest: some record is a variant that has such a one
 module _ (sheet : List ℕ) (e max : ℕ) where
   abbrev over : ℕ → Bool
   over i = any_used (ltb max) (view_of sheet i e)
 
-  over-next :
-      (i k n : ℕ) → i < e → k ≡ kind_in (record_bytes sheet i) → n ≡ value_in (record_bytes sheet i) →
-      over i ≡ ((eqb k Kind.Variant && ltb max n) || over (i + 1))
+  -- a record is a variant whose ordinal is over it
+  abbrev pub IsOver : ℕ → Bool
+  IsOver i = eqb (kind_in (record_bytes sheet i)) Kind.Variant && ltb max (value_in (record_bytes sheet i))
+
+  over-next : (i : ℕ) → i < e → over i ≡ (IsOver i || over (i + 1))
   unfolding view_at
-  over-next i k n h kind value = rw (view-cons sheet i e h, kind, value) (used-next (ltb max) (view_at sheet i) (view_of sheet (i + 1) e))
+  over-next i h = rw (view-cons sheet i e h) (used-next (ltb max) (view_at sheet i) (view_of sheet (i + 1) e))
 
-  module _
-      (i k n : ℕ)
-      (all : Bool)
-      (before : over i ≡ all)
-      (h : i < e)
-      (kind : k ≡ kind_in (record_bytes sheet i))
-      (value : n ≡ value_in (record_bytes sheet i))
-    where
-      pub over_here : (eqb k Kind.Variant && ltb max n) ≡ true → true ≡ all
-      over_here test = sym (over-next i k n h kind value ∙ rw test) ∙ before
-
-      pub over_later : (eqb k Kind.Variant && ltb max n) ≡ false → over (i + 1) ≡ all
-      over_later test = sym (over-next i k n h kind value ∙ rw test) ∙ before
-
-  pub over_none : (i : ℕ) (all : Bool) → over i ≡ all → e ≤ i → false ≡ all
+  over-none : (i : ℕ) → e ≤ i → over i ≡ false
   unfolding any_of items flat_map
-  over_none i all before h = rw (view-none sheet i e h) at before
+  over-none i h = rw (view-none sheet i e h)
+
+  some-over : (n i k : ℕ) → i + n ≡ e → i ≤ k → k < e → IsOver k ≡ true → true ≡ over i
+  some-over zero i k sum least most test = absurd (omega arith)
+  some-over (suc n) i k sum least most test = by (λ later. some-over n (i + 1) k (omega arith) later most test) (ℕ_discrete i k)
+    where
+      by : (i + 1 ≤ k → true ≡ over (i + 1)) → Dec (i ≡ k) → true ≡ over i
+      by later (yes same) = sym (over-next i (omega arith) ∙ ap (λ b. b || over (i + 1)) (ap IsOver same ∙ test))
+      by later (no differ) = sym (over-next i (omega arith) ∙ ap (λ b. IsOver i || b) (sym (later (omega arith))) ∙ or-true (IsOver i))
+
+  none-over : (n i : ℕ) → i + n ≡ e → ((k : ℕ) → i ≤ k → k < e → IsOver k ≡ false) → false ≡ over i
+  none-over zero i sum none = sym (over-none i (omega arith))
+  none-over (suc n) i sum none =
+      none-over n (i + 1) (omega arith) (λ k least most. none k (omega arith) most)
+      ∙ sym (over-next i (omega arith) ∙ ap (λ b. b || over (i + 1)) (none i (omega arith) (omega arith)))
+
+  pub over_found : (i : ℕ) (found : Bool) → SomeFrom IsOver i e found → found ≡ over i
+  over_found i true some = some-over (e - i) i some.0 (omega (arith, some.1, some.2)) some.1 some.2 some.3
+  over_found i false none = by (leb i e) refl
+    where
+      by : (order : Bool) → leb i e ≡ order → false ≡ over i
+      by true h = none-over (e - i) i (omega (arith, leb-true i e h)) none
+      by false h = sym (over-none i (omega (arith, leb-false i e h)))
 
 -- the rule at one record
 module _ (sheet : List ℕ) (i a e k : ℕ) (old : Violations) (kind : k ≡ kind_in (record_bytes sheet i)) where

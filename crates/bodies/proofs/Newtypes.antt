@@ -1,6 +1,8 @@
 -- Rules 37 and 38: what the name of a newtype's inner type is declared as.
-use Rattle.std.proofs.Common.{◌≡◌, ℕ, ◌<◌, ◌≤◌, Bool, ◌&&◌, List, eqb}
+use Rattle.std.proofs.Common.{◌≡◌, ℕ, Bool, ◌&&◌, List, eqb, Some, None}
 use Rattle.rules.specs.declared.span.Span.{Span}
+use Rattle.rules.specs.declared.range.RecordRange.{RecordRange}
+use Rattle.rules.specs.Range.{first_of}
 use Rattle.rules.specs.Kind
 use Rattle.rules.specs.Sub
 use Rattle.rules.specs.Record.{record_bytes, kind_in, span_in}
@@ -12,21 +14,21 @@ use Rattle.diagnostic.specs.declared.violations.Violations.{Violations}
 use Rattle.diagnostic.specs.Push.{push_if}
 use Rattle.diagnostic.specs.Violations.{state_of, Adds}
 use Rattle.diagnostic.proofs.Added.{adds_none, adds_then, adds_if}
-use Rattle.types.proofs.Views.{view-cons, view-none}
+use Rattle.types.proofs.Views.{view_first, view_empty}
 
-module _ (ctx : ValidationContext ℕ Span) (sheet : List ℕ) (a e : ℕ) (old : Violations) where
-  pub newtype_none : e ≤ a → Adds old old (newtype_violations ctx (view_of sheet a e))
+module _ (ctx : ValidationContext ℕ Span) (sheet : List ℕ) (body : RecordRange) (old : Violations) where
+  pub newtype_none : first_of body ≡ None → Adds old old (newtype_violations ctx (view_of sheet body.start body.end))
   unfolding newtype_violations
-  newtype_none h = rw (view-none sheet a e h) (adds_none old)
+  newtype_none none = rw (view_empty sheet body none) (adds_none old)
 
   pub newtype_added :
-      (kind : ℕ) (newtype config : Bool) (mid new : Violations) → a < e → kind ≡ kind_in (record_bytes sheet a) →
+      (a kind : ℕ) (newtype config : Bool) (mid new : Violations) → first_of body ≡ Some a → kind ≡ kind_in (record_bytes sheet a) →
       newtype ≡ declared_as ctx Sub.Newtype a → config ≡ declared_as ctx Sub.Config a → mid.list.ghost_name ≡ old.list.ghost_name →
       state_of mid ≡ push_if (eqb kind Kind.Named && newtype) (record { class = NewtypeOverNewtype; severity = error; span = span_in (record_bytes sheet a) }) (state_of old) →
       new.list.ghost_name ≡ mid.list.ghost_name →
       state_of new ≡ push_if (eqb kind Kind.Named && config) (record { class = NewtypeOverConfig; severity = error; span = span_in (record_bytes sheet a) }) (state_of mid) →
-      Adds old new (newtype_violations ctx (view_of sheet a e))
+      Adds old new (newtype_violations ctx (view_of sheet body.start body.end))
   unfolding view_at rule_row newtype_violations
-  newtype_added kind newtype config mid new some hk hn hc same h same' h' =
-      rw (view-cons sheet a e some)
+  newtype_added a kind newtype config mid new some hk hn hc same h same' h' =
+      rw (view_first sheet body a some)
       (adds_then old mid new _ _ (adds_if 37 _ _ old mid same (rw (hk, hn) at h)) (adds_if 38 _ _ mid new same' (rw (hk, hc) at h')))

@@ -1,6 +1,6 @@
 -- A run of records ends at the first record that is not of it: the records passed so far are the front of all, and what is left to pass is
 -- cut as all are.
-use Prim.Native.Nat.{ℕ, zero, suc, ◌+◌, ◌-◌, ◌<◌, ◌≤◌}
+use Prim.Native.Nat.{ℕ, zero, suc, ◌+◌, ◌-◌, ◌*◌, ◌/◌, ◌<◌, ◌≤◌}
 use mathlib.Core.Path.{◌≡◌, refl, sym, ap, ◌∙◌}
 use mathlib.Core.Bool.{Bool, true, false, not, ◌&&◌, ◌||◌}
 use mathlib.Core.List.{List, [], ◌∷◌, ◌++◌, append-nil, append_assoc}
@@ -8,6 +8,8 @@ use native.Mathlib.Decide.{ℕ_discrete}
 use native.Mathlib.Omega.{arith}
 use lib.Dec.{leb, ltb}
 use borrow.Author.Tests.{leb-true, leb-false, not-true, not-false, lt-ltb, le-ltb}
+use Rattle.std.specs.Prelude.{Option, Some, None, MatchOption}
+use Rattle.std.specs.Option.{unwrap_or}
 use Rattle.rules.specs.declared.span.Span.{Span}
 use Rattle.rules.specs.Words.{within, first_is, front, rest}
 use Rattle.rules.specs.Record.{Rec}
@@ -55,6 +57,22 @@ ends-out p sheet a e r ends h = ap (first_is p) (sym (view-cons sheet r e h) ∙
 pub all_none : (p : Rec ℕ Span → Bool) (sheet : List ℕ) (a : ℕ) → AllIn p sheet a a
 unfolding AllIn
 all_none p sheet a = λ j l lt. absurd (omega arith)
+
+module _ (p : Rec ℕ Span → Bool) (sheet : List ℕ) (a : ℕ) where
+  -- records that pass by fours
+  abbrev Four : ℕ → Type 0
+  Four k = AllIn p sheet (a + 4 * k) (a + 4 * k + 4)
+
+  all_fours : (n : ℕ) → ((k : ℕ) → 0 ≤ k → k < n → Four k) → AllIn p sheet a (a + 4 * n)
+  unfolding AllIn
+  all_fours n each = λ j l lt. each ((j - a) / 4) (omega arith) (omega arith) j (omega arith) (omega arith)
+
+  pub fours_found :
+      (e : ℕ) (found : Option ℕ) → a ≤ e → let n = (e - a) / 4 in
+      MatchOption found ((k : ℕ) → 0 ≤ k → k < n → Four k) (λ r. (0 ≤ r) × (r < n) × Unit {0} × ((k : ℕ) → 0 ≤ k → k < r → Four k)) →
+      (a + 4 * unwrap_or found n ≤ e) × AllIn p sheet a (a + 4 * unwrap_or found n)
+  fours_found e None order each = (omega arith, all_fours ((e - a) / 4) each)
+  fours_found e (Some r) order (least, most, here, each) = (omega arith, all_fours r each)
 
 module _ (p : Rec ℕ Span → Bool) (sheet : List ℕ) (a e : ℕ) where
   -- the records from a up to i are of the run, and so what follows them is cut where all are
@@ -138,6 +156,16 @@ module _ (p : Rec ℕ Span → Bool) (sheet : List ℕ) (a e : ℕ) where
       by : Dec (r ≡ e) → RunTo p sheet a e r
       by (yes same) = rw same (passed-all r passed (omega arith))
       by (no differ) = let h : r < e = omega arith in passed-end r passed false h (sym (out h)) refl
+
+  -- the run ends at the first of the records that was found to fail the test, or at their end
+  pub run_found :
+      (found : Option ℕ) → a ≤ e →
+      MatchOption found ((k : ℕ) → a ≤ k → k < e → p (view_at sheet k) ≡ true)
+      (λ r. (a ≤ r) × (r < e) × (p (view_at sheet r) ≡ false) × ((k : ℕ) → a ≤ k → k < r → p (view_at sheet k) ≡ true)) →
+      RunTo p sheet a e (unwrap_or found e)
+  unfolding AllIn
+  run_found None order all = passed-out e (passed_to a e none_passed order (omega arith) all) (omega arith) (λ h. absurd (omega arith))
+  run_found (Some r) order (least, most, out, all) = passed-out r (passed_to a r none_passed least (omega arith) all) (omega arith) (λ h. out)
 
   -- a run goes on behind records of it
   pub run_on : (m r : ℕ) → a ≤ m → m ≤ e → AllIn p sheet a m → EndsAt p sheet m e r × (r ≤ e) × (m ≤ e → m ≤ r) × AllIn p sheet m r → RunTo p sheet a e r

@@ -44,16 +44,12 @@ fn backing_max(sub: u8) -> u64
 }
 
 // Whether a variant of the body has an ordinal over `max`.
-#[tactic(auto, using(crate::proofs::Backings::over_here, crate::proofs::Backings::over_later, crate::proofs::Backings::over_none))]
 fn is_narrow(sheet: &[u8], body: RecordRange, max: u64) -> bool
     ensures { result ≡ any_of (ltb max) (used_ordinals (slots (body_items (view_of sheet.now body.start body.end)))) }
 {
-    for i in body.start..body.end {
-        if (sheet::kind(sheet, i) == kinds::VARIANT) & (max < sheet::value(sheet, i)) {
-            return true;
-        }
-    }
-    false
+    (body.start..body.end).any(|i| {
+        (sheet::kind(sheet, i) == kinds::VARIANT) & (max < sheet::value(sheet, i))
+    })
 }
 
 // Adds rule 33, if record `i` is a backing too narrow for the variants of the body.

@@ -95,8 +95,7 @@ pub fn check_bare(rest: WholeRecords, violations: &mut Violations)
     ensures { Adds violations.old violations.new (field_violations (context_in rest.entry.context) (view_of rest.entry.context.sheet.now rest.entry.range.start (rest.entry.range.start + 1))) }
 {
     let first = rest.range.start;
-    let named = rest.kind(first) == kinds::NAMED;
-    if named {
+    if rest.kind(first) == kinds::NAMED {
         types::check_named(rest.context, violations, first);
     }
 }

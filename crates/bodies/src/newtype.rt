@@ -12,11 +12,10 @@ use sheet::{kinds, subs};
 pub fn check_newtype(body: WholeRecords, violations: &mut Violations)
     ensures { Adds violations.old violations.new (newtype_violations (context_in body.entry.context) (records_in body.entry.context body.entry.range)) }
 {
-    if body.range.is_empty() {
+    let Some(inner) = body.range.first() else {
         return;
-    }
+    };
     let context = body.context;
-    let inner = body.range.start;
     let named = sheet::kind(context.sheet, inner) == kinds::NAMED;
     // rule 37
     let newtype = named & types::is_declared_as(context, subs::NEWTYPE, inner);

@@ -1,5 +1,5 @@
 // Where a run of records ends.
-ghost use Rattle.std.specs.Prelude.{◌≡◌, ℕ, Bool, true, not, nat_eq, ◌||◌, ◌+◌, ◌*◌, ◌≤◌, length};
+ghost use Rattle.std.specs.Prelude.{◌≡◌, ℕ, Bool, true, not, nat_eq, ◌||◌, ◌+◌, ◌*◌, ◌<◌, ◌≤◌, length};
 ghost use Rattle.rules.specs.Words.{within};
 ghost use Rattle.rules.specs.Kind;
 ghost use Rattle.rules.specs.Record.{is};
@@ -52,12 +52,14 @@ pub fn run_end<F: Fn(u8) -> bool>(records: WholeRecords, is_in: F) -> usize
     ensures inside { (records.entry.range.start ≤ result) × (result ≤ records.entry.range.end) }
     ensures run { (p : ℕ → Bool) → ((kind : ℕ) (r : Bool) → F.post is_in kind r → r ≡ p kind) → RunTo (λ t. p t.kind) records.entry.context.sheet.now records.entry.range.start records.entry.range.end result }
 {
-    for i in records.range.start..records.range.end {
-        if !is_in(records.kind(i)) {
-            return i;
-        }
-    }
-    records.range.end
+    (records.range.start..records.range.end)
+        .find(
+            |i|
+                requires inside { i.now < records.range.end }
+                requires callable { F.IsAlwaysCallable is_in }
+            { !is_in(records.kind(*i)) },
+        )
+        .unwrap_or(records.range.end)
 }
 
 // Whether the four records from `i` on are optionals.
@@ -68,26 +70,22 @@ fn are_optionals(records: WholeRecords, i: usize) -> bool
     (0..4).all(|j| records.kind(i + j) == kinds::OPTIONAL)
 }
 
-// A record before which all are optionals, found by fours.
-fn fours_end(records: WholeRecords) -> usize
-    ensures { (records.entry.range.start ≤ result) × (result ≤ records.entry.range.end) × AllIn (is Kind.Optional) records.entry.context.sheet.now records.entry.range.start result }
+// How many fours of the records, from the first on, are optionals.
+fn optional_fours(records: WholeRecords) -> usize
+    ensures { (records.entry.range.start + 4 * result ≤ records.entry.range.end) × AllIn (is Kind.Optional) records.entry.context.sheet.now records.entry.range.start (records.entry.range.start + 4 * result) }
 {
-    let mut i = records.range.start;
-    // a `for` by steps of four would have to stop before the last that are fewer
-    while i + 4 <= records.range.end {
-        if !are_optionals(records, i) {
-            return i;
-        }
-        i += 4;
-    }
-    i
+    let start = records.range.start;
+    let fours = (records.range.end - start) / 4;
+    (0..fours)
+        .find(|four| !are_optionals(records, start + 4 * *four))
+        .unwrap_or(fours)
 }
 
-// The first of the records that is no optional, or their end.
+// The first of the records that is no optional, or their end. Fours are passed first, since a long run of optionals is what takes the time of a sheet of them.
 pub fn optionals_end(records: WholeRecords) -> usize
     ensures { RunTo (is Kind.Optional) records.entry.context.sheet.now records.entry.range.start records.entry.range.end result }
 {
-    let others = records.from(fours_end(records));
+    let others = records.from(records.range.start + 4 * optional_fours(records));
     run_end(others, |kind| kind == kinds::OPTIONAL)
 }
 

@@ -1,7 +1,7 @@
 // Whole records of a sheet, which are read without a test of where the sheet ends.
 ghost use Rattle.std.specs.Prelude.{◌≡◌, true, ◌+◌, ◌*◌, ◌<◌, ◌≤◌, length};
 ghost use Rattle.rules.specs.Kind;
-ghost use Rattle.rules.specs.Record.{number_at, record_bytes, kind_in, value_in};
+ghost use Rattle.rules.specs.Record.{record_bytes, kind_in, value_in};
 
 use names::ValidationContext;
 use rules::{RecordRange, Sheet};
@@ -14,20 +14,6 @@ pub struct WholeRecords<'a> {
     pub ghost ordered: { range.start ≤ range.end },
     pub ghost few: { range.end ≤ 1024 },
     pub ghost whole: { range.end * 32 ≤ length context.sheet.now },
-}
-
-// The number in the four bytes from `at` on of record `i`.
-fn word_at(sheet: &[u8], i: usize, at: usize) -> u32
-    requires { ((i + 1) * 32 ≤ length sheet.now) × (at ≤ 28) }
-    ensures { result ≡ number_at at 4 (record_bytes sheet.now i) }
-{
-    let first = i * Sheet::RECORD + at;
-    u32::from_le_bytes([
-        sheet[first],
-        sheet[first + 1],
-        sheet[first + 2],
-        sheet[first + 3],
-    ])
 }
 
 impl<'a> WholeRecords<'a> {
@@ -47,7 +33,17 @@ impl<'a> WholeRecords<'a> {
         ensures { result ≡ value_in (record_bytes self.entry.context.sheet.now i) }
     {
         let sheet = self.context.sheet;
-        word_at(sheet, i, 24) as u64 + 4294967296 * (word_at(sheet, i, 28) as u64)
+        let first = i * Sheet::RECORD + 24;
+        u64::from_le_bytes([
+            sheet[first],
+            sheet[first + 1],
+            sheet[first + 2],
+            sheet[first + 3],
+            sheet[first + 4],
+            sheet[first + 5],
+            sheet[first + 6],
+            sheet[first + 7],
+        ])
     }
 
     // Those of them from record `start` on.
