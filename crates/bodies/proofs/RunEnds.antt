@@ -157,16 +157,6 @@ module _ (p : Rec ℕ Span → Bool) (sheet : List ℕ) (a e : ℕ) where
       by (yes same) = rw same (passed-all r passed (omega arith))
       by (no differ) = let h : r < e = omega arith in passed-end r passed false h (sym (out h)) refl
 
-  -- the run ends at the first of the records that was found to fail the test, or at their end
-  pub run_found :
-      (found : Option ℕ) → a ≤ e →
-      MatchOption found ((k : ℕ) → a ≤ k → k < e → p (view_at sheet k) ≡ true)
-      (λ r. (a ≤ r) × (r < e) × (p (view_at sheet r) ≡ false) × ((k : ℕ) → a ≤ k → k < r → p (view_at sheet k) ≡ true)) →
-      RunTo p sheet a e (unwrap_or found e)
-  unfolding AllIn
-  run_found None order all = passed-out e (passed_to a e none_passed order (omega arith) all) (omega arith) (λ h. absurd (omega arith))
-  run_found (Some r) order (least, most, out, all) = passed-out r (passed_to a r none_passed least (omega arith) all) (omega arith) (λ h. out)
-
   -- a run goes on behind records of it
   pub run_on : (m r : ℕ) → a ≤ m → m ≤ e → AllIn p sheet a m → EndsAt p sheet m e r × (r ≤ e) × (m ≤ e → m ≤ r) × AllIn p sheet m r → RunTo p sheet a e r
   run_on m r least most all run =

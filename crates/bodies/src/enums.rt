@@ -12,7 +12,7 @@ use crate::seen::{ItemList, Seen};
 use crate::whole::WholeRecords;
 use diagnostic::Violations;
 use rules::{RecordRange, Violation};
-use sheet::kinds;
+use sheet::{kinds, subs};
 
 // Adds what is wrong with the variants of the body: rules 31 and 32.
 fn check_variants(body: WholeRecords, violations: &mut Violations)
@@ -35,10 +35,10 @@ fn backing_max(sub: u8) -> u64
     ensures { result ≡ backing_max sub }
 {
     match sub {
-        0 => 255,
-        1 => 65535,
-        2 => 4294967295,
-        3 => 18446744073709551615,
+        subs::U8_BACKING => u64::from(u8::MAX),
+        subs::U16_BACKING => u64::from(u16::MAX),
+        subs::U32_BACKING => u64::from(u32::MAX),
+        subs::U64_BACKING => u64::MAX,
         _ => 0,
     }
 }

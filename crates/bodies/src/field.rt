@@ -77,16 +77,14 @@ pub fn is_bare(rest: WholeRecords) -> bool
         return false;
     }
     let first = rest.range.start;
-    let kind = rest.kind(first);
-    if (kind < kinds::PRIMITIVE) | (kinds::NAMED < kind) {
+    if !matches!(rest.kind(first), kinds::PRIMITIVE..=kinds::NAMED) {
         return false;
     }
     let next = first + 1;
     if next == rest.range.end {
         return true;
     }
-    let after = rest.kind(next);
-    (kinds::FIELD <= after) & (after <= kinds::INVARIANT)
+    sheet::is_field_item(rest.kind(next))
 }
 
 // Adds what is wrong with the first of the records, a type that is the only part of a field.

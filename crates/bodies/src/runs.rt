@@ -20,7 +20,7 @@ pub fn is_before_head(kind: u8) -> bool
 pub fn is_annotation(kind: u8) -> bool
     ensures { result ≡ within Kind.Annotation Kind.Argument kind }
 {
-    (kinds::ANNOTATION <= kind) & (kind <= kinds::ARGUMENT)
+    matches!(kind, kinds::ANNOTATION..=kinds::ARGUMENT)
 }
 
 // Whether the kind is one of a field's type: that of a type, or of a bit name among them.
@@ -31,19 +31,17 @@ fn is_type_part(kind: u8) -> bool
 }
 
 // Whether the kind is one of a field's parts: no item of a field list starts with it.
-#[tactic(auto, using(crate::proofs::RunEnds::outside))]
 pub fn is_field_part(kind: u8) -> bool
     ensures { result ≡ not (within Kind.Field Kind.Invariant kind) }
 {
-    (kind < kinds::FIELD) | (kinds::INVARIANT < kind)
+    !sheet::is_field_item(kind)
 }
 
 // Whether the kind is one of the parts of a variant: no item of a body starts with it.
-#[tactic(auto, using(crate::proofs::RunEnds::outside))]
 pub fn is_variant_part(kind: u8) -> bool
     ensures { result ≡ not (within Kind.Variant Kind.Tombstone kind) }
 {
-    (kind < kinds::VARIANT) | (kinds::TOMBSTONE < kind)
+    !sheet::is_variant_item(kind)
 }
 
 // The first of the records whose kind is not of the run, or their end.
@@ -52,14 +50,12 @@ pub fn run_end<F: Fn(u8) -> bool>(records: WholeRecords, is_in: F) -> usize
     ensures inside { (records.entry.range.start ≤ result) × (result ≤ records.entry.range.end) }
     ensures run { (p : ℕ → Bool) → ((kind : ℕ) (r : Bool) → F.post is_in kind r → r ≡ p kind) → RunTo (λ t. p t.kind) records.entry.context.sheet.now records.entry.range.start records.entry.range.end result }
 {
-    (records.range.start..records.range.end)
-        .find(
-            |i|
-                requires inside { i.now < records.range.end }
-                requires callable { F.IsAlwaysCallable is_in }
-            { !is_in(records.kind(*i)) },
-        )
-        .unwrap_or(records.range.end)
+    for i in records.range.start..records.range.end {
+        if !is_in(records.kind(i)) {
+            return i;
+        }
+    }
+    records.range.end
 }
 
 // Whether the four records from `i` on are optionals.

@@ -1,15 +1,22 @@
--- The records before the one that is found were asked, by their kinds.
-use Rattle.std.proofs.Common.{◌≡◌, true, false, rules}
-use Rattle.std.proofs.lemmas.Iterator.{first_from_Range}
+-- Each record is asked by its kind.
+use Rattle.std.proofs.Common.{◌∙◌, ap}
+use Rattle.std.proofs.Math.Bool.{not}
 use Rattle.names.specs.View.{view_at}
-use Rattle.bodies.proofs.RunEnds.{run_found}
+use Rattle.bodies.proofs.RunEnds.{none_passed, passed-next, passed-end, passed-all}
 use Rattle.bodies.proofs.runs.run_end.Goals as goal
 
-pub returns-clause-run : goal.returns-clause-run
+pub loop-i-init : goal.loop-i-init
+loop-i-init g c = λ p h. none_passed _ _ _ _
+
+pub returns-then-not-is_in-clause-run : goal.returns-then-not-is_in-clause-run
 unfolding view_at
-returns-clause-run g c =
-    λ p h.
-    rw c.unwrap_or.ensures
-    (run_found (λ t. p t.kind) c.args.records.context.sheet.now c.args.records.range.start c.args.records.range.end c.find.result c.args.records.ordered
-    (first_from_Range _ _ _ _ (λ k. p (view_at c.args.records.context.sheet.now k).kind ≡ false) (λ k. p (view_at c.args.records.context.sheet.now k).kind ≡ true)
-    c.find.ensures.ran (λ k q r. search rules) (λ k q r. search rules)))
+returns-then-not-is_in-clause-run g c =
+    λ p h. passed-end _ _ _ _ _ (c.loop-i.invariant p h) _ c.loop-i-test.true (h _ _ c.is_in.ensures ∙ ap p c.kind.ensures) (ap not c.if-not-is_in.true)
+
+pub loop-i-preserved : goal.loop-i-preserved
+unfolding view_at
+loop-i-preserved g c =
+    λ p h. passed-next _ _ _ _ _ (c.loop-i.invariant p h) _ c.loop-i-test.true (h _ _ c.is_in.ensures ∙ ap p c.kind.ensures) (ap not c.if-not-is_in.false)
+
+pub returns-clause-run : goal.returns-clause-run
+returns-clause-run g c = λ p h. passed-all _ _ _ _ _ (c.loop-i.invariant p h) c.loop-i-test.false
