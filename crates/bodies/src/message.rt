@@ -82,7 +82,7 @@ pub fn check_message_body<'a>(
     let mut seen = Seen::new(ItemList::fields(fields));
     seen.collect();
     let mut i = fields.range.start;
-    // a `for` cannot step by what it reads
+    // what is checked of a field says where to go on, which no `for` does
     while i < fields.range.end {
         if fields.kind(i) != kinds::FIELD {
             check_invariant(fields.context.sheet, violations, i);

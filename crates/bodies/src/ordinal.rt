@@ -49,7 +49,8 @@ impl OrdinalRules {
         !item.meeting.tombstoned & !item.meeting.met & (item.ordinal <= self.greatest)
     }
 
-    // Adds what is wrong with the ordinal of the item, test by test.
+    // Adds what is wrong with the ordinal of the item, test by test. The classes may be any, so what is added is told by violations, and not by the rules that
+    // `Adds` names.
     #[tactic(auto, unfolding(crate::specs::Ordinal::push_ordinal))]
     pub fn tell(self, violations: &mut Violations, item: MetItem)
         ensures reference { violations.new.list.ghost_name ≡ violations.old.list.ghost_name }

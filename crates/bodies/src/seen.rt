@@ -48,7 +48,9 @@ const MARKS: usize = 1021;
 
 // The numbers of a list that are kept: the ordinals of its tombstones, and then those of its items so far. Marks lie beside them: where a number has no mark,
 // it is not among them. An ordinal over 32 bits, which row 5 does not let through, is not kept: whether it was met is asked of the records. The numbers are an
-// array with its length, since nothing here takes memory from a heap and std has no vector of a fixed room.
+// array and their count by value, as document 01 has them: nothing here takes memory from a heap, and the library for C stands on no crate of the kit but
+// `std`, which has no vector of a fixed room. The list is in it, and stays the same, since each method reads it: else each call, and what is known between two,
+// would name it besides.
 #[derive(Drop)]
 pub struct Seen<'a> {
     list: ItemList<'a>,
@@ -91,7 +93,8 @@ fn mark(number: u32) -> usize
 }
 
 // Whether the number is among those. Each turn asks one of the first and one of the last of them: two windows, which overlap where they must for the turns
-// to be a multiple of 8, as many as the compiled code takes at once. The library's `contains` takes an eighth longer where all ordinals share a mark.
+// to be a multiple of 8, as many as the compiled code takes at once. The library's `contains` takes an eighth longer where all ordinals share a mark: then
+// `marks` takes 0.27 of the Rust's whole way, and the aim is 0.25.
 fn contains(numbers: &[u32], number: u32) -> bool
     ensures { result ≡ member number (latest numbers.now 0 (length numbers.now)) }
 {
@@ -126,8 +129,8 @@ fn is_among(sheet: &[u8], kind: u8, start: usize, end: usize, ordinal: u64) -> b
 }
 
 impl<'a> Seen<'a> {
-    // Tells of the ordinal of record `i`, whatever its mark says: asks the numbers that are kept, or the records where it is not to be kept. Few ordinals have a
-    // mark, and so it stays out of the lists' loops.
+    // Tells of the ordinal of record `i`, whatever its mark says: asks the numbers that are kept, or the records where it is not to be kept. Few ordinals have
+    // a mark, and so it stays out of the lists' loops.
     #[inline(never)]
     fn tell(&self, i: usize, ordinal: u64) -> Meeting
         requires { KeptBefore self.now i }

@@ -6,7 +6,8 @@ ghost use Rattle.rules.specs.Record.{record_bytes, kind_in, value_in};
 use names::ValidationContext;
 use rules::{RecordRange, Sheet};
 
-// Whole records of a sheet, in a row and among the first 1,024, with what they are checked against.
+// Whole records of a sheet, in a row and among the first 1,024, with what they are checked against. What is read of them needs no test of where the sheet ends:
+// the type says so. No function that another crate can name has a `requires`, a rule of the project, so `refusals` and `names` have readings of their own.
 #[derive(Clone, Copy)]
 pub struct WholeRecords<'a> {
     pub context: ValidationContext<'a>,
