@@ -68,9 +68,9 @@ module _ (sheet : List ℕ) (e max : ℕ) where
   unfolding view_at
   over-next i h = rw (view-cons sheet i e h) (used-next (ltb max) (view_at sheet i) (view_of sheet (i + 1) e))
 
-  over-none : (i : ℕ) → e ≤ i → over i ≡ false
+  over_none : (i : ℕ) → e ≤ i → over i ≡ false
   unfolding any_of items flat_map
-  over-none i h = rw (view-none sheet i e h)
+  over_none i h = rw (view-none sheet i e h)
 
   some-over : (n i k : ℕ) → i + n ≡ e → i ≤ k → k < e → IsOver k ≡ true → true ≡ over i
   some-over zero i k sum least most test = absurd (omega arith)
@@ -81,7 +81,7 @@ module _ (sheet : List ℕ) (e max : ℕ) where
       by later (no differ) = sym (over-next i (omega arith) ∙ ap (λ b. IsOver i || b) (sym (later (omega arith))) ∙ or-true (IsOver i))
 
   none-over : (n i : ℕ) → i + n ≡ e → ((k : ℕ) → i ≤ k → k < e → IsOver k ≡ false) → false ≡ over i
-  none-over zero i sum none = sym (over-none i (omega arith))
+  none-over zero i sum none = sym (over_none i (omega arith))
   none-over (suc n) i sum none =
       none-over n (i + 1) (omega arith) (λ k least most. none k (omega arith) most)
       ∙ sym (over-next i (omega arith) ∙ ap (λ b. b || over (i + 1)) (none i (omega arith) (omega arith)))
@@ -92,7 +92,7 @@ module _ (sheet : List ℕ) (e max : ℕ) where
     where
       by : (order : Bool) → leb i e ≡ order → false ≡ over i
       by true h = none-over (e - i) i (omega (arith, leb-true i e h)) none
-      by false h = sym (over-none i (omega (arith, leb-false i e h)))
+      by false h = sym (over_none i (omega (arith, leb-false i e h)))
 
 -- the rule at one record
 module _ (sheet : List ℕ) (i a e k : ℕ) (old : Violations) (kind : k ≡ kind_in (record_bytes sheet i)) where

@@ -27,7 +27,7 @@ impl<'a> WholeRecords<'a> {
     }
 
     // The ordinal of record `i`, a field, a variant or a tombstone.
-    #[tactic(auto, using(crate::proofs::WholeRecords::ordinal_whole))]
+    #[tactic(auto, using(crate::proofs::WholeRecords::ordinal_read))]
     pub fn ordinal(self, i: usize) -> u64
         requires inside { i < self.range.end }
         requires numbered { Kind.has_ordinal (kind_in (record_bytes self.context.sheet.now i)) ≡ true }
