@@ -11,20 +11,13 @@ use lib.ListN.{length, get_or, set, take, drop, replicate, length-drop}
 use lib.Seq.{take-add, take_all, drop-drop, get_or-set_other}
 use borrow.Author.Tests.{eqb-true, eqb-false}
 use Rattle.std.specs.Prelude.{Option, Some, None}
+use Rattle.std.proofs.lemmas.Bool.{and_parts}
 use Rattle.rules.specs.Words.{any_of}
 use Rattle.rules.proofs.Lists.{any_of-append}
 use Rattle.rules.specs.Context.{valid_field_name}
 use Rattle.sheet.specs.Mark.{HasMarks, starts_by, continues_by, continue_by}
 use Rattle.sheet.proofs.Marks.{valid-by, bad-start, good_start}
 use Rattle.names.specs.Code.{Judged}
-
-first_of : (a b : Bool) → (a && b) ≡ true → a ≡ true
-first_of true b h = refl
-first_of false b h = h
-
-second-of : (a b : Bool) → (a && b) ≡ true → b ≡ true
-second-of true b h = h
-second-of false b h = cc
 
 neither-of : (a b : Bool) → not (a || b) ≡ (not a && not b)
 neither-of true b = refl
@@ -80,8 +73,8 @@ module _ (marks : List ℕ) where
     piece-told k a e t l m n =
         let size : k * 64 + 64 - k * 64 ≡ 64 = omega arith in
         let piece : ℕ → ℕ → Bool = λ i j. continue_by marks (take (j - i) (drop i text)) in
-        let behind = second-of (piece (k * 64) a) (piece a (k * 64 + 64)) (sym (cut (k * 64) a (k * 64 + 64) l (omega arith)) ∙ rw size t) in
-        first_of (piece a e) (piece e (k * 64 + 64)) (sym (cut a e (k * 64 + 64) m n) ∙ behind)
+        let behind = (and_parts (piece (k * 64) a) (piece a (k * 64 + 64)) (sym (cut (k * 64) a (k * 64 + 64) l (omega arith)) ∙ rw size t)).1 in
+        (and_parts (piece a e) (piece e (k * 64 + 64)) (sym (cut a e (k * 64 + 64) m n) ∙ behind)).0
 
     -- a walk over the pieces of a part, block by block: the bytes from block k on decide, since those before go on
     pub record Walked (start end k : ℕ) : Type 0 where

@@ -8,13 +8,13 @@ use mathlib.Core.Option.{Option, some, none}
 use lib.ListN.{length, get_or, drop}
 use lib.Dec.{eqb}
 use borrow.Author.Tests.{eq-eqb, ne_eqb}
+use Rattle.std.proofs.lemmas.Bool.{and_parts}
 use Rattle.rules.specs.Words.{number_if, any_of, same_bytes, member}
 use Rattle.rules.specs.Kind
 use Rattle.rules.specs.Record.{Rec, is}
 use Rattle.rules.specs.Asked.{is_compared}
 use Rattle.rules.specs.Context.{Declared, declared, inner_of}
 use Rattle.rules.proofs.Every.{Every, every-as}
-use Rattle.rules.proofs.Lists.{and_right}
 use Rattle.rules.proofs.Mapped.{any_same}
 use Rattle.rules.proofs.Moved.{same_bytes-tells}
 use Rattle.rules.proofs.Renamed.{named}
@@ -108,7 +108,7 @@ module _ {P : Type 0} where
             let r : Rec (List ℕ) P = get_or rs i d in
             let q : Rec (List ℕ) P = get_or rs (id_in rs i r) d in
             let passes = (place-passes (same_name r) d rs (id_in rs i r) (id-place i l h)).1 in
-            same_bytes-tells q.name r.name (and_right (is_keyed r && is_keyed q) (same_bytes q.name r.name) passes)
+            same_bytes-tells q.name r.name (and_parts (is_keyed r && is_keyed q) (same_bytes q.name r.name) passes).1
 
         go :
             (c : Bool) →

@@ -7,7 +7,7 @@ use mathlib.Core.List.{List}
 use native.Mathlib.Omega.{arith}
 use lib.ListN.{length, get_or, take, drop, length-drop}
 use lib.Seq.{take-take, take_all}
-use Rattle.rules.proofs.Lists.{and_left, and_right}
+use Rattle.std.proofs.lemmas.Bool.{and_parts}
 use Rattle.rules.specs.declared.span.Span.{Span}
 use Rattle.rules.specs.Kind
 use Rattle.rules.specs.Words.{same_bytes}
@@ -80,8 +80,7 @@ module _ (sheet names : List ℕ) (i : ℕ) where
   pub name_by : is_named (record_of sheet names i) ≡ true → name_in names (record_bytes sheet i) ≡ take (name_length (record_bytes sheet i)) (drop (name_offset (record_bytes sheet i)) names)
   unfolding name_in
   name_by named =
-      let parts : (is_named_in (record_bytes sheet i) && name_fits names (record_bytes sheet i)) ≡ true = sym named_by ∙ named in
-      rw (and_left (is_named_in (record_bytes sheet i)) (name_fits names (record_bytes sheet i)) parts, and_right (is_named_in (record_bytes sheet i)) (name_fits names (record_bytes sheet i)) parts)
+      let parts = and_parts (is_named_in (record_bytes sheet i)) (name_fits names (record_bytes sheet i)) (sym named_by ∙ named) in rw (parts.0, parts.1)
 
 -- a part cut out of the rest of a text
 pub rest_part : (text : List ℕ) (start len : ℕ) → take (len - 0) (drop 0 (take (length text - start) (drop start text))) ≡ take len (drop start text)

@@ -13,6 +13,7 @@ use lib.ListN.{length, get_or, drop, drop_of_length-le}
 use lib.Seq.{drop-drop, take_all}
 use lib.Dec.{eqb}
 use borrow.Author.Tests.{eqb-true}
+use Rattle.std.proofs.lemmas.Bool.{and_parts}
 use Rattle.rules.specs.declared.span.Span.{Span}
 use Rattle.rules.specs.Words.{within, number_if, any_of, same_bytes, look_up}
 use Rattle.rules.specs.Kind
@@ -26,7 +27,6 @@ use Rattle.rules.specs.Answer.{is_accepted, found_in}
 use Rattle.rules.proofs.Every.{Every, every-nil, every-cons, every-at}
 use Rattle.rules.proofs.Records.{length-records, records-at, records-drop, records-end}
 use Rattle.rules.proofs.AcceptedSheet.{accepted-length, accepted-whole, accepted-fits}
-use Rattle.rules.proofs.Lists.{and_left, and_right}
 use Rattle.rules.proofs.Chains.{is_some, goes_on, chain-stays, never_ends_lem}
 use Rattle.rules.proofs.Renamed.{renamed, has_name_of, map_option, Holds, renamed_declared, WellNamed, Agree, Alike, endless-renamed, goes-renamed, never-renamed, agree-alike}
 use Rattle.rules.proofs.RenamedBodies.{violations-renamed}
@@ -159,20 +159,20 @@ module _ (sheet names : List ℕ) (room : length sheet ≤ 32768) (whole : lengt
     code-entry : entry_of code_part (table_of rs) i ≡ code_of (kind_in (record_bytes sheet i)) (name_at sheet names i)
     unfolding decode
     code-entry =
-        let named = and_left (is_named_in (record_bytes sheet i)) (test (kind_in (record_bytes sheet i))) has in
+        let named = (and_parts (is_named_in (record_bytes sheet i)) (test (kind_in (record_bytes sheet i))) has).0 in
         entry code_part (omega arith) ∙ rw (named, fits-at i inside)
 
   -- a name that may be a word, and one that is judged
   word-entry : (i : ℕ) → HasName is_worded sheet i → entry_of code_part (table_of rs) i ≡ word_code (name_at sheet names i)
   unfolding code_of
   word-entry i has =
-      let worded = and_right (is_named_in (record_bytes sheet i)) (is_worded (kind_in (record_bytes sheet i))) has in
+      let worded = (and_parts (is_named_in (record_bytes sheet i)) (is_worded (kind_in (record_bytes sheet i))) has).1 in
       code-entry is_worded i has ∙ rw (worded, code_of)
 
   valid-entry : (i : ℕ) → HasName is_spelled sheet i → entry_of code_part (table_of rs) i ≡ number_if (valid_field_name (name_at sheet names i)) 9
   unfolding code_of
   valid-entry i has =
-      let spelled = and_right (is_named_in (record_bytes sheet i)) (is_spelled (kind_in (record_bytes sheet i))) has in
+      let spelled = (and_parts (is_named_in (record_bytes sheet i)) (is_spelled (kind_in (record_bytes sheet i))) has).1 in
       code-entry is_spelled i has ∙ ap (λ k. code_of k (name_at sheet names i)) (eqb-true (kind_in (record_bytes sheet i)) Kind.BitName spelled)
 
   module _ (i : ℕ) (has : HasName is_compared sheet i) where
@@ -304,7 +304,7 @@ module _ (sheet names : List ℕ) (room : length sheet ≤ 32768) (whole : lengt
       -- the name of a type may be no word, and is not judged
       not-asked : (test : ℕ → Bool) → test Kind.Named ≡ false → is Kind.Named r ≡ true → has_name_of test r ≡ true → HasName test sheet r.name
       not-asked test f k x =
-          absurd (true≢false (sym (and_right (Kind.has_name r.kind r.sub) (test r.kind) x) ∙ ap test (eqb-true r.kind Kind.Named k) ∙ f))
+          absurd (true≢false (sym (and_parts (Kind.has_name r.kind r.sub) (test r.kind) x).1 ∙ ap test (eqb-true r.kind Kind.Named k) ∙ f))
 
       go : (k : Bool) → is Kind.Named r ≡ k → (b : Bool) → has_name_at is_compared sheet r.name ≡ b → goes_on by_table n r ≡ true
       go true k true h =

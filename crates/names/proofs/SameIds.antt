@@ -9,9 +9,9 @@ use mathlib.Core.List.{List}
 use lib.ListN.{length, get_or}
 use lib.Dec.{eqb}
 use borrow.Author.Tests.{eq-eqb, ne_eqb}
+use Rattle.std.proofs.lemmas.Bool.{and_parts}
 use Rattle.rules.specs.Words.{same_bytes}
 use Rattle.rules.specs.Record.{Rec, is}
-use Rattle.rules.proofs.Lists.{and_left, and_right}
 use Rattle.rules.proofs.Moved.{same_bytes-tells}
 use Rattle.names.specs.NameTable.{place_of, is_keyed, same_name, id_in}
 use Rattle.names.specs.Notes.{has_id}
@@ -22,9 +22,8 @@ module _ {P : Type 0} where
   pub same-tells : (r q : Rec (List ℕ) P) → same_name r q ≡ true → (is_keyed r ≡ true) × (is_keyed q ≡ true) × (q.name ≡ r.name)
   unfolding same_name
   same-tells r q h =
-      let both = and_left (is_keyed r && is_keyed q) (same_bytes q.name r.name) h in
-      let bytes = and_right (is_keyed r && is_keyed q) (same_bytes q.name r.name) h in
-      (and_left (is_keyed r) (is_keyed q) both, and_right (is_keyed r) (is_keyed q) both, same_bytes-tells q.name r.name bytes)
+      let all = and_parts (is_keyed r && is_keyed q) (same_bytes q.name r.name) h in
+      let keyed = and_parts (is_keyed r) (is_keyed q) all.0 in (keyed.0, keyed.1, same_bytes-tells q.name r.name all.1)
 
   same_of : (r q : Rec (List ℕ) P) → is_keyed r ≡ true → is_keyed q ≡ true → q.name ≡ r.name → same_name r q ≡ true
   unfolding same_name

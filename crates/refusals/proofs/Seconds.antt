@@ -10,12 +10,13 @@ use mathlib.Core.Option.{Option, some, none}
 use lib.ListN.{length, length-append}
 use lib.Dec.{eqb}
 use borrow.Author.Tests.{ne_eqb, eq-eqb, eqb-true, eqb-false}
+use Rattle.std.proofs.lemmas.Bool.{or_parts}
 use Rattle.rules.specs.Words.{any_of, only_if, same_bytes}
 use Rattle.rules.specs.Kind
 use Rattle.rules.specs.Record.{Rec, is}
 use Rattle.rules.specs.Grammar as Grammar
 use Rattle.rules.specs.Refusals.{Fault, own_fault, record_step, first_fault}
-use Rattle.rules.proofs.Lists.{or_left, or_right, any_of-append}
+use Rattle.rules.proofs.Lists.{any_of-append}
 use Rattle.rules.proofs.AcceptedSheet.{own-fits, step_fits}
 use Rattle.names.specs.NameTable.{place_of, is_keyed, same_name, declaration_in}
 use Rattle.names.proofs.FirstPlaces.{one_on}
@@ -103,8 +104,8 @@ module _ {P : Type 0} where
   unfolding any_of
   among r n [] f = refl
   among r n (x ∷ pre) f =
-      go (declares x) refl x.fits refl (or_left (declares x && not x.fits) _ f)
-      (among r n pre (or_right (declares x && not x.fits) _ f))
+      go (declares x) refl x.fits refl (or_parts (declares x && not x.fits) _ f).0
+      (among r n pre (or_parts (declares x && not x.fits) _ f).1)
     where
       go : (d : Bool) → declares x ≡ d → (e : Bool) → x.fits ≡ e → (declares x && not x.fits) ≡ false
           → any_of (λ q. declares q && same_name r q) pre ≡ any_of (λ q. declares q && same_bytes r.name q.name) pre

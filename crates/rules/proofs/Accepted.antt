@@ -3,11 +3,13 @@
 use Prim.Native.Nat.{ℕ, suc, ◌≤◌}
 use mathlib.Core.Path.{◌≡◌, refl, sym, ap, ◌∙◌}
 use mathlib.Core.Bool.{Bool, true, false, ◌&&◌, ◌||◌, true≢false}
+use mathlib.Core.Logic.{inl, inr}
 use mathlib.Core.List.{List, [], ◌∷◌, ◌++◌}
 use mathlib.Core.Option.{Option, some, none}
 use native.Mathlib.Omega.{arith}
 use lib.Dec.{leb, eqb}
 use borrow.Author.Tests.{ne_eqb}
+use Rattle.std.proofs.lemmas.Bool.{or_cases}
 use Rattle.rules.specs.Words.{within, any_of, only_if}
 use Rattle.rules.specs.Kind
 use Rattle.rules.specs.Sub
@@ -15,7 +17,7 @@ use Rattle.rules.specs.Record.{Rec, is, is_of}
 use Rattle.rules.specs.Grammar.{Step, to, fault, State, context, message, enum, flags, union, newtype, TypeState, type_step, no_type, start, done, opened, step, context_step, context_item, starts_context_item, none_due, between, unbacked, outside, type_due, field_list_step, enum_step, union_step, starts_item, starts_field_item}
 use Rattle.rules.specs.Refusals.{Fault, own_fault, record_step, first_fault}
 use Rattle.rules.proofs.Machine.{to-inj, guarded-to, lifted-to, reads, reads_on, reads-kinds}
-use Rattle.rules.proofs.Taken.{within-true, within-false, or_cases, field_list-range, type-kind, field_list-kind, enum_kind, union-kind}
+use Rattle.rules.proofs.Taken.{within-true, within-false, field_list-range, type-kind, field_list-kind, enum_kind, union-kind}
 
 -- no fault was found
 abbrev pub is_clean : Option Fault → Bool
@@ -86,9 +88,10 @@ module _ {N P : Type 0} where
       (omega arith, cc)
   body-kind (union s) r t b h =
       let l = lifted-to union (union_step s r) h in (
-        or_cases (starts_item r) (starts_field_item r || leb Kind.Annotation r.kind) (union-kind s r l.1)
-            (λ e. let k = within-true 14 15 r.kind e in omega arith)
-            (λ e. (field_list-range r.kind e).0),
+        elim (or_cases (starts_item r) (starts_field_item r || leb Kind.Annotation r.kind) (union-kind s r l.1)) [
+          | inl e ↦ let k = within-true 14 15 r.kind e in omega arith
+          | inr e ↦ (field_list-range r.kind e).0
+        ],
         rw (← l.2),
       )
   body-kind (newtype s) r t b h =

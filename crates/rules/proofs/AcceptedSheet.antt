@@ -8,6 +8,7 @@ use mathlib.Core.Option.{Option, some, none}
 use lib.ListN.{length}
 use lib.Dec.{eqb, ltb}
 use borrow.Author.Tests.{eqb-true, ltb-false}
+use Rattle.std.proofs.lemmas.Bool.{or_parts}
 use Rattle.rules.specs.Words.{only_if, same_bytes}
 use Rattle.rules.specs.Kind
 use Rattle.rules.specs.Record.{Rec, is, record_size, records}
@@ -15,13 +16,12 @@ use Rattle.rules.specs.Context.{context_of}
 use Rattle.rules.specs.Grammar.{Step, to, fault, State, start}
 use Rattle.rules.specs.Refusals.{Fault, max_length, is_wrong_length, is_long_names, is_unknown, own_fault, record_step, first_fault, records_fault, refusal}
 use Rattle.rules.specs.Answer.{is_accepted}
-use Rattle.rules.proofs.Lists.{or_left, or_right}
 use Rattle.rules.proofs.Every.{Every, every-nil, every-cons}
 
 -- a sheet that row 1 does not turn down is not too long
 pub short-sheet : (sheet : List ℕ) → is_wrong_length sheet ≡ false → length sheet ≤ max_length
 short-sheet sheet h =
-    ltb-false max_length (length sheet) (or_right (not (eqb (length sheet % record_size) 0)) (ltb max_length (length sheet)) h)
+    ltb-false max_length (length sheet) (or_parts (not (eqb (length sheet % record_size) 0)) (ltb max_length (length sheet)) h).1
 
 -- a sheet that row 1 does not turn down has whole records
 pub whole-sheet : (sheet : List ℕ) → is_wrong_length sheet ≡ false → length sheet % record_size ≡ 0
@@ -29,7 +29,7 @@ whole-sheet sheet h = go (eqb (length sheet % record_size) 0) refl
   where
     go : (b : Bool) → eqb (length sheet % record_size) 0 ≡ b → length sheet % record_size ≡ 0
     go true e = eqb-true (length sheet % record_size) 0 e
-    go false e = cc (or_left (not (eqb (length sheet % record_size) 0)) (ltb max_length (length sheet)) h)
+    go false e = cc (or_parts (not (eqb (length sheet % record_size) 0)) (ltb max_length (length sheet)) h).0
 
 right-length : (sheet names : List ℕ) → is_accepted sheet names ≡ true → is_wrong_length sheet ≡ false
 unfolding refusal

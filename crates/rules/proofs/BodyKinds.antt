@@ -2,27 +2,29 @@
 use Prim.Native.Nat.{ℕ}
 use mathlib.Core.Path.{◌≡◌, refl, sym, ap, ◌∙◌}
 use mathlib.Core.Bool.{Bool, true, false, not, ◌&&◌, ◌||◌, true≢false}
+use mathlib.Core.Logic.{inl, inr}
 use mathlib.Core.List.{List, [], ◌∷◌}
 use native.Mathlib.Omega.{arith}
 use lib.Dec.{leb, eqb}
 use borrow.Author.Tests.{eqb-true, ne_eqb}
+use Rattle.std.proofs.lemmas.Bool.{and_parts, or_cases}
 use Rattle.rules.specs.Words.{within, any_of, first_is, front, Item, items}
 use Rattle.rules.specs.Kind
 use Rattle.rules.specs.Sub
 use Rattle.rules.specs.Record.{Rec, is}
 use Rattle.rules.specs.Grammar.{Step, to, fault, FieldListState, between, UnionState, outside, EnumState, unbacked, TypeState, type_due, done, field_list_done, union_done, opened, step, type_step, field_list_step, enum_step, union_step, starts_field_item, starts_item, start}
-use Rattle.rules.proofs.Lists.{and_right, all_of, nil-of, Each, each_of, items-each}
+use Rattle.rules.proofs.Lists.{all_of, nil-of, Each, each_of, items-each}
 use Rattle.rules.proofs.Machine.{guarded-to, reads, reads_first, reads-kinds}
-use Rattle.rules.proofs.Taken.{within-true, outside-is, or_cases, field_list-range, is_type_due, type-type, field_list-kind, enum_kind, union-kind}
+use Rattle.rules.proofs.Taken.{within-true, outside-is, field_list-range, is_type_due, type-type, field_list-kind, enum_kind, union-kind}
 use Rattle.rules.proofs.Accepted.{checked, checked-to, Parts}
-use Rattle.rules.proofs.BodyReads.{always, type_done, sound, bare_reads, union_item_reads, enum-items, flags-items, union-items, flags_step, message-reads, enum-reads, flags-reads, union-reads, newtype-reads}
+use Rattle.rules.proofs.BodyReads.{always, type_done, sound, bare_reads, union_item_reads, enum-items, flags-items, union-items, flags_step, enum-reads, flags-reads, union-reads, newtype-reads}
 
 module _ {N P : Type 0} where
   -- where a list is read item by item, each item is read
   items-read : (reading : List (Rec N P) → Bool) (p : Item (Rec N P) → Bool) (rs : List (Rec N P))
       → reading rs ≡ (reading (front (λ r. not (starts_item r)) rs) && all_of p (items starts_item rs)) → reading rs ≡ true
       → all_of p (items starts_item rs) ≡ true
-  items-read reading p rs e h = and_right (reading (front (λ r. not (starts_item r)) rs)) _ (sym e ∙ h)
+  items-read reading p rs e h = (and_parts (reading (front (λ r. not (starts_item r)) rs)) _ (sym e ∙ h)).1
 
   -- a state that takes none but beginnings of items begins with one
   reads-begins : {S : Type 0} (step : S → Rec N P → Step S) (finished : S → Bool) (starts : Rec N P → Bool) (s : S)
@@ -74,11 +76,11 @@ module _ {N P : Type 0} where
       go : (b : Bool) → is Kind.Variant it.head ≡ b → UnionItem it
       go true e =
           record {
-            fields = field-list it.rest (and_right (sound it.head) _ (rw e at h));
+            fields = field-list it.rest (and_parts (sound it.head) _ (rw e at h)).1;
             alone = λ d. absurd (true≢false (sym e ∙ d));
           }
       go false e =
-          let n = nil-of it.rest (and_right (sound it.head) _ (rw e at h)) in
+          let n = nil-of it.rest (and_parts (sound it.head) _ (rw e at h)).1 in
           record { fields = rw n no-records; alone = λ d. n }
 
   union-body : (rs : List (Rec N P)) → reads (checked union_step) union_done outside rs ≡ true → UnionBody rs
@@ -95,9 +97,10 @@ module _ {N P : Type 0} where
       kind : (s : UnionState) (r : Rec N P) (t : UnionState) → Unit {0} → checked union_step s r ≡ to t
           → (is Kind.Backing r ≡ false) × Unit {0}
       kind s r t u e = (
-        or_cases (starts_item r) (starts_field_item r || leb Kind.Annotation r.kind) (union-kind s r (checked-to union_step s r e))
-            (λ d. let w = within-true 14 15 r.kind d in ne_eqb r.kind 16 (λ q. omega arith))
-            (λ d. outside-is 14 16 16 r.kind refl (field_list-range r.kind d).1),
+        elim (or_cases (starts_item r) (starts_field_item r || leb Kind.Annotation r.kind) (union-kind s r (checked-to union_step s r e))) [
+          | inl d ↦ let w = within-true 14 15 r.kind d in ne_eqb r.kind 16 (λ q. omega arith)
+          | inr d ↦ outside-is 14 16 16 r.kind refl (field_list-range r.kind d).1
+        ],
         tt,
       )
 
@@ -112,7 +115,7 @@ module _ {N P : Type 0} where
     pub items : Each (λ it. it.rest ≡ []) (items starts_item rs)
 
   bare-each : (rs : List (Rec N P)) → all_of bare_reads (items starts_item rs) ≡ true → Each (λ it. it.rest ≡ []) (items starts_item rs)
-  bare-each rs h = each_of bare_reads (λ it b k. nil-of it.rest (and_right (sound it.head) _ b)) h (items-each starts_item rs)
+  bare-each rs h = each_of bare_reads (λ it b k. nil-of it.rest (and_parts (sound it.head) _ b).1) h (items-each starts_item rs)
 
   enum-body : (rs : List (Rec N P)) → reads (checked enum_step) always unbacked rs ≡ true → EnumBody rs
   enum-body rs h =
@@ -170,9 +173,6 @@ module _ {N P : Type 0} where
     -- the body is read as that of its head's sub
     sub-reads : (sub : ℕ) → eqb p.head.sub sub ≡ true → reads (checked step) done (opened sub) p.body ≡ true
     sub-reads sub e = rw (← (eqb-true p.head.sub sub e)) p.body_reads
-
-    pub accepted-message : eqb p.head.sub Sub.MessageHead ≡ true → FieldList p.body
-    accepted-message e = field-list p.body (sym (message-reads p.body) ∙ sub-reads Sub.MessageHead e)
 
     pub accepted-enum : eqb p.head.sub Sub.EnumHead ≡ true → EnumBody p.body
     accepted-enum e = enum-body p.body (sym (enum-reads p.body) ∙ sub-reads Sub.EnumHead e)

@@ -6,13 +6,14 @@ use mathlib.Core.List.{List, [], ◌∷◌}
 use mathlib.Core.Option.{Option, some, none}
 use native.Mathlib.Omega.{arith}
 use lib.Dec.{eqb}
+use Rattle.std.proofs.lemmas.Bool.{or_parts}
 use Rattle.rules.specs.Words.{any_of, front, Item, items}
 use Rattle.rules.specs.Kind
 use Rattle.rules.specs.Sub
 use Rattle.rules.specs.Record.{Rec, is}
 use Rattle.rules.specs.Grammar.{Step, to, fault, lifted, guarded, State, message, enum, flags, union, newtype, FieldListState, between, field_item, UnionState, outside, variant, union_item, EnumState, unbacked, items as past, TypeState, type_due, none_due, done, field_list_done, union_done, opened, step, type_step, field_list_step, enum_step, union_step, starts_field_item, starts_item}
 use Rattle.rules.specs.Refusals.{own_fault}
-use Rattle.rules.proofs.Lists.{or_left, all_of, all_of-same, is_nil, none_of-false, each_map, items-each}
+use Rattle.rules.proofs.Lists.{all_of, all_of-same, is_nil, none_of-false, each_map, items-each}
 use Rattle.rules.proofs.Machine.{reads, reads_on, reads-items, reads-lifted}
 use Rattle.rules.proofs.Taken.{within-true, type-kind}
 use Rattle.rules.proofs.Accepted.{checked, checked-to}
@@ -78,7 +79,7 @@ module _ {N P : Type 0} where
   unfolding reads any_of
   reads_nothing step finished starts s e h [] k = e
   reads_nothing step finished starts s e h (r ∷ rs) k =
-      checked-on step finished s r rs ∙ rw (h r (or_left (starts r) _ k)) (and-false (sound r))
+      checked-on step finished s r rs ∙ rw (h r (or_parts (starts r) _ k).0) (and-false (sound r))
 
   -- an item that is its head alone
   abbrev pub bare_reads : Item (Rec N P) → Bool

@@ -1,25 +1,27 @@
 -- No record answers for more than three violations: a member of a list breaks at most three rules of its list, and the records of a field
 -- at most three each.
-use Prim.Native.Nat.{ℕ, zero, suc, ◌+◌, ◌*◌, ◌/◌, ◌≤◌, zero-le, max}
+use Prim.Native.Nat.{ℕ, suc, ◌+◌, ◌*◌, ◌≤◌, zero-le, max}
 use native.Mathlib.Nat.{le_refl, le_trans, mul-add, mul-le-mul_left}
 use native.Mathlib.Omega.{arith}
 use mathlib.Core.Path.{◌≡◌, refl, ap}
 use mathlib.Core.Bool.{Bool, true, false, not, ◌&&◌}
 use mathlib.Core.List.{List, [], ◌∷◌, map, flat_map}
-use lib.ListN.{drop, length, length-append, length-map}
+use lib.ListN.{length, length-append, length-map}
 use lib.Dec.{eqb, ltb}
 use Rattle.rules.specs.Words.{number_if, only_if, any_of, member, select, rest, Item, items}
 use Rattle.rules.specs.Kind
 use Rattle.rules.specs.Sub
-use Rattle.rules.specs.Record.{Rec, is, record_size, records, pieces}
+use Rattle.rules.specs.Record.{Rec, is, records}
 use Rattle.rules.specs.Context.{ValidationContext, declared_as, context_of}
 use Rattle.rules.specs.Grammar.{starts_field_item, starts_item}
 use Rattle.rules.specs.Rule.{Found, found_if}
 use Rattle.rules.specs.Bodies.{list_violations, declaration_violations, used_ordinals, backing_max, slots, retired_ordinals, Scheme, field_scheme, enum_scheme, flags_scheme, union_scheme, is_member, body_items, found_all, member_violations, items_violations, field_violations, field_item_violations, field_list_violations, enum_violations, flags_violations, union_violations, newtype_violations, body_violations, violations_of}
 use Rattle.rules.specs.Answer.{found_in, full_list, is_accepted}
 use Rattle.rules.specs.Items.{sum_of}
+use Rattle.rules.proofs.Records.{length-records}
+use Rattle.rules.proofs.Joined.{length-select}
 use Rattle.rules.proofs.AcceptedSheet.{accepted-length}
-use Rattle.rules.proofs.Lengths.{one, one-bound, one-or, one-eqb, number_if-le, length-only_if, only_if-bound, select-bound, front-rest-length, size, items-size, flat_map-one}
+use Rattle.rules.proofs.Lengths.{one, one-bound, one-or, one-eqb, number_if-le, length-only_if, only_if-bound, front-rest-length, size, items-size, flat_map-one}
 use Rattle.rules.proofs.FieldBound.{field_bound}
 
 -- as many as there are rules, where the test says so
@@ -133,7 +135,7 @@ module _ {N P : Type 0} (ctx : ValidationContext N P) where
             (λ b. found_if 33 (any_of (ltb (backing_max b.sub)) (used_ordinals (slots (body_items body)))) b.place)
             (λ b. only_if-bound (any_of (ltb (backing_max b.sub)) (used_ordinals (slots (body_items body)))) _)
             (select (is Kind.Backing) body),
-        select-bound (is Kind.Backing) body,
+        length-select (is Kind.Backing) body,
       ))
 
   flags-bound : (body : List (Rec N P)) → length (flags_violations ctx body) ≤ 3 * length body
@@ -185,15 +187,6 @@ module _ {N P : Type 0} (ctx : ValidationContext N P) where
       go [] h = zero-le
       go (head ∷ body) h = omega (arith, body-bound head.sub body)
 
-pieces-length : (n : ℕ) (s : List ℕ) → length (pieces n s) ≡ n
-unfolding pieces
-pieces-length zero s = refl
-pieces-length (suc n) s = ap suc (pieces-length n (drop record_size s))
-
-records-length : (sheet names : List ℕ) → length (records sheet names) ≡ length sheet / record_size
-unfolding records
-records-length sheet names = rw (length-map, pieces-length)
-
 -- the total is at most three times the records
 pub total-bound : (sheet names : List ℕ) → length (full_list sheet names) ≤ 3 * length (records sheet names)
 unfolding full_list found_in
@@ -205,6 +198,6 @@ list-fits sheet names h =
     omega (
       arith,
       total-bound sheet names,
-      records-length sheet names,
+      length-records sheet names,
       accepted-length sheet names h,
     )

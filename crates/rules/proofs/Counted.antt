@@ -5,10 +5,12 @@ use native.Mathlib.Nat.{zero-add}
 use native.Mathlib.Omega.{arith}
 use mathlib.Core.Path.{◌≡◌, refl, ap, subst⁻¹, ◌∙◌}
 use mathlib.Core.Bool.{Bool, true, false, not, ◌||◌}
+use mathlib.Core.Logic.{inl, inr}
 use mathlib.Core.List.{List, [], ◌∷◌, map}
 use lib.ListN.{length-append}
 use lib.Dec.{eqb}
 use borrow.Author.Tests.{eqb-true, ne_eqb, not-false}
+use Rattle.std.proofs.lemmas.Bool.{or_cases, or_parts}
 use Rattle.rules.specs.declared.span.Span.{Span}
 use Rattle.rules.specs.Words.{within, any_of, select, front, first_is, same_bytes, Item, items}
 use Rattle.rules.specs.Kind
@@ -21,8 +23,8 @@ use Rattle.rules.specs.Bodies.{field_items, body_items, union_violations, body_v
 use Rattle.rules.specs.Answer.{found_in, full_list, is_accepted}
 use Rattle.rules.specs.Items.{sum_of, distinct, untombstoned, fields_in, field_lists, distinct_untombstoned, occurrences, is_in_class}
 use Rattle.rules.proofs.Joined.{select-append}
-use Rattle.rules.proofs.Lists.{or_left, or_right, none_of-weaker, Each, each_nil, each-cons}
-use Rattle.rules.proofs.Taken.{within-true, outside-is, or_cases}
+use Rattle.rules.proofs.Lists.{none_of-weaker, Each, each_nil, each-cons}
+use Rattle.rules.proofs.Taken.{within-true, outside-is}
 use Rattle.rules.proofs.Accepted.{Parts, accepted-parts}
 use Rattle.rules.proofs.Lead.{starts_at, from-head, items-from-head}
 use Rattle.rules.proofs.BodyKinds.{EnumBody, FlagsBody, NewtypeBody, UnionItem, UnionBody, accepted-enum, accepted-flags, accepted-union, accepted-newtype}
@@ -40,7 +42,7 @@ module _ {N P : Type 0} where
   unfolding any_of
   fields-none [] h = no_fields N P
   fields-none (r ∷ rs) h =
-      fields-cons r rs ∙ rw (or_left (is Kind.Field r) _ h, zero-add) (fields-none rs (or_right (is Kind.Field r) _ h))
+      fields-cons r rs ∙ rw ((or_parts (is Kind.Field r) _ h).0, zero-add) (fields-none rs (or_parts (is Kind.Field r) _ h).1)
 
   -- records of other kinds
   fields-other : (p : Rec N P → Bool) → ((r : Rec N P) → p r ≡ true → 12 ≤ r.kind) → (rs : List (Rec N P)) →
@@ -61,9 +63,10 @@ module _ {N P : Type 0} where
     where
       kind : (r : Rec N P) → (is Kind.BitName r || Kind.is_type r.kind) ≡ true → 12 ≤ r.kind
       kind r h =
-          or_cases (is Kind.BitName r) (Kind.is_type r.kind) h
-          (λ e. omega (arith, eqb-true r.kind 22 e))
-          (λ e. omega (arith, within-true 30 48 r.kind e))
+          elim (or_cases (is Kind.BitName r) (Kind.is_type r.kind) h) [
+            | inl e ↦ omega (arith, eqb-true r.kind 22 e)
+            | inr e ↦ omega (arith, within-true 30 48 r.kind e)
+          ]
 
   -- the fields of a union stand before its items, or in one
   abbrev ItemsFields : List (Rec N P) → Type 0

@@ -5,11 +5,11 @@ use native.Mathlib.Omega.{arith}
 use mathlib.Core.Path.{◌≡◌, refl, ap, ap₂, sym, ◌∙◌}
 use mathlib.Core.Bool.{Bool, true, false, ◌&&◌}
 use mathlib.Core.List.{List, [], ◌∷◌, ◌++◌, flat_map, append_assoc}
-use mathlib.Core.Option.{none}
 use lib.ListN.{length, get_or, take, drop, length-append, length-drop}
 use lib.Seq.{length-take-le, drop_at}
 use lib.Dec.{ltb, eqb}
 use borrow.Author.Tests.{ltb-true}
+use Rattle.std.proofs.lemmas.Bool.{and_parts}
 use Rattle.rules.specs.declared.span.Span.{Span}
 use Rattle.rules.specs.declared.violation.Violation.{Violation}
 use Rattle.rules.specs.Words.{number, bytes}
@@ -17,9 +17,8 @@ use Rattle.rules.specs.Kind
 use Rattle.rules.specs.Record.{span_at, span_if, ordinal_span_in, decode, pieces, record_size, records}
 use Rattle.rules.specs.Context.{context_of}
 use Rattle.rules.specs.Rule.{Found, RuleRow, rules, rule_row, violation}
-use Rattle.rules.specs.Refusals.{refusal}
 use Rattle.rules.specs.Answer.{found_in, full_list}
-use Rattle.rules.specs.Buffer.{encode, decode_violation, decode_list, written_of, written, violation_size, buffer_after}
+use Rattle.rules.specs.Buffer.{encode, decode_violation, decode_list, written_of, written, violation_size}
 use Rattle.rules.proofs.Joined.{length-flat_map}
 use Rattle.rules.proofs.Every.{Every, every-nil, every-cons, every_one, every_append, every_take, every_drop, every-get_d}
 use Rattle.rules.proofs.Every.{every_map, every-flat_map}
@@ -31,11 +30,6 @@ pub record Encodable (v : Violation) : Type 0 where
   pub severity : v.severity < 256
   pub offset : v.span.offset < 2 ^ 32
   pub len : v.span.len < 2 ^ 32
-
-pub length-bytes : (n x : ℕ) → length (bytes n x) ≡ n
-unfolding bytes
-length-bytes zero x = refl
-length-bytes (suc n) x = ap suc (length-bytes n (x / 256))
 
 -- the bytes of a number stand for it
 pub number-bytes : (n x : ℕ) → x < 256 ^ n → number (bytes n x) ≡ x
@@ -161,16 +155,12 @@ rules-pass : rows_test rules ≡ true
 unfolding rows_test
 rules-pass = refl
 
-both : (a b : Bool) → (a && b) ≡ true → (a ≡ true) × (b ≡ true)
-both true b h = (refl, h)
-both false b h = (h, cc)
-
 row_fits : (xs : List RuleRow) (rule : ℕ) → rows_test xs ≡ true → RowFits (rule_row xs rule)
 unfolding rows_test rule_row
 row_fits [] rule h = record { class = omega arith; severity = omega arith }
 row_fits (x ∷ xs) rule h =
-    let all = both (ltb x.class 65536 && ltb x.severity 256) (rows_test xs) h in
-    let own = both (ltb x.class 65536) (ltb x.severity 256) all.0 in
+    let all = and_parts (ltb x.class 65536 && ltb x.severity 256) (rows_test xs) h in
+    let own = and_parts (ltb x.class 65536) (ltb x.severity 256) all.0 in
     go (eqb x.rule rule) (record { class = ltb-true _ _ own.0; severity = ltb-true _ _ own.1 }) (row_fits xs rule all.1)
   where
     go : (b : Bool) {y z : RuleRow} → RowFits y → RowFits z → RowFits (elim b [ true ↦ y | false ↦ z ])
@@ -188,11 +178,3 @@ unfolding full_list found_in records
 full-list-encodable sheet names h =
     let placed = every_map (decode names) (decode-placed names) (every-piece (length sheet / record_size) (every-get_d 0 sheet h)) in
     every_map violation violation-encodable (violation-places SpanFits (context_of (records sheet names)) placed)
-
--- of a sheet of bytes that is accepted, the buffer says the first violations of the full list
-pub buffer-decoded : (sheet names old : List ℕ) → ((i : ℕ) → get_or sheet i 0 < 256) → refusal sheet names ≡ none
-    → decode_list (written_count (full_list sheet names) old) (buffer_after sheet names old)
-    ≡ take (written_count (full_list sheet names) old) (full_list sheet names)
-unfolding buffer_after
-buffer-decoded sheet names old h accepted =
-    rw (accepted, buffer_after) (decode-written (full_list sheet names) old (full-list-encodable sheet names h))

@@ -20,7 +20,8 @@ use Rattle.rules.specs.Types.{own_type_violations, types_violations, key_violati
 use Rattle.rules.specs.Annotations.{annotation_violations, combined_violations, duplicate_annotations, annotations_violations, limit_value_violations, has_reason, is_word, annotations_of, max_limit}
 use Rattle.rules.specs.Conditions.{Literals, operand_violations, own_condition_violations, condition_violations, operands_of, literals_of, length_literals}
 use Rattle.rules.specs.Bodies.{field_violations, type_part, annotation_part, condition_part, in_type, in_annotations}
-use Rattle.rules.proofs.Lengths.{one, one-bound, one-and-left, one-or, one_apart, one-within, one-eqb, one_at, one-not, number_if-le, number_if-bound, length-only_if, only_if-bound, take_bound, select-bound, front-rest-length, size, size-bound, items-size, flat_map-bound, flat_map-one}
+use Rattle.rules.proofs.Joined.{length-select}
+use Rattle.rules.proofs.Lengths.{one, one-bound, one-and-left, one-or, one_apart, one-within, one-eqb, one_at, one-not, number_if-le, number_if-bound, length-only_if, only_if-bound, take_bound, front-rest-length, size, size-bound, items-size, flat_map-bound, flat_map-one}
 
 -- a name that is not known is not declared at all
 one-unknown : {D : Type 0} (d : Option D) (is-config : D → Bool) (named imported wild : Bool) →
@@ -162,7 +163,7 @@ module _ {N P : Type 0} (ctx : ValidationContext N P) where
         only_if-bound (any_of (is_word ctx varint) anns) (flat_map (λ a. found_if 13 true a.head.place) (take 1 zigzags)),
         flat_map-one (λ a. found_if 13 true a.head.place) (λ a. le_refl 1) (take 1 zigzags),
         (take_bound 1 zigzags).1,
-        select-bound (is_word ctx zigzag) anns,
+        length-select (is_word ctx zigzag) anns,
       )
 
   duplicate-annotations-bound : (names : List N) (anns : List (Item (Rec N P))) → length (duplicate_annotations ctx names anns) ≤ length anns

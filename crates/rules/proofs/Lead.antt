@@ -8,6 +8,7 @@ use mathlib.Core.Option.{Option, some, none}
 use lib.ListN.{length}
 use lib.Dec.{eqb, lit≤}
 use borrow.Author.Tests.{eqb-true}
+use Rattle.std.proofs.lemmas.Bool.{or_parts}
 use Rattle.rules.specs.Words.{within, any_of, front, rest, first_is, same_bytes, items}
 use Rattle.rules.specs.Kind
 use Rattle.rules.specs.Sub
@@ -16,7 +17,7 @@ use Rattle.rules.specs.Context.{ValidationContext, context_of, declared, inner_o
 use Rattle.rules.specs.Grammar.{start, starts_field_item, starts_item}
 use Rattle.rules.specs.Items.{lead_of, items_of, starts_item_of}
 use Rattle.rules.specs.Refusals.{Fault, endless_chain, leads_nowhere}
-use Rattle.rules.proofs.Lists.{or_left, or_right, none_of-weaker, none_of-and, none_of-front, front-past, rest-past, items-past, any_of-before, select-before}
+use Rattle.rules.proofs.Lists.{none_of-weaker, none_of-and, none_of-front, front-past, rest-past, items-past, any_of-before, select-before}
 use Rattle.rules.proofs.Taken.{narrower, outside-is}
 use Rattle.rules.proofs.Accepted.{Parts}
 
@@ -93,7 +94,7 @@ module _ {N P : Type 0} where
   unfolding endless_chain any_of
   endless-none ctx i [] k = refl
   endless-none ctx i (y ∷ ys) k =
-      rw (or_left (is Kind.Declaration y) _ k, endless_chain) (endless-none ctx (suc i) ys (or_right (is Kind.Declaration y) _ k))
+      rw ((or_parts (is Kind.Declaration y) _ k).0, endless_chain) (endless-none ctx (suc i) ys (or_parts (is Kind.Declaration y) _ k).1)
 
   endless-before : (ctx : ValidationContext N P) (i : ℕ) (xs ys : List (Rec N P)) (h : Rec N P) → is Kind.Declaration h ≡ false
       → any_of (is Kind.Declaration) ys ≡ false → endless_chain ctx i (xs ++ (h ∷ ys)) ≡ endless_chain ctx i (xs ++ (h ∷ []))
@@ -115,7 +116,7 @@ module _ {P : Type 0} where
   unfolding declared any_of
   declared-none [] name k = refl
   declared-none (y ∷ ys) name k =
-      rw (or_left (is Kind.Declaration y) _ k, declared) (declared-none ys name (or_right (is Kind.Declaration y) _ k))
+      rw ((or_parts (is Kind.Declaration y) _ k).0, declared) (declared-none ys name (or_parts (is Kind.Declaration y) _ k).1)
 
   declared-before : (xs ys : List (Rec (List ℕ) P)) (h : Rec (List ℕ) P) (name : List ℕ)
       → is Kind.Declaration h ≡ false → any_of (is Kind.Declaration) ys ≡ false
@@ -163,7 +164,7 @@ module _ {P : Type 0} where
       → last_row (xs ++ (h ∷ ys)) ≡ last_row (xs ++ (h ∷ []))
   unfolding last_row
   last_row-before xs ys h e k =
-      let kinds = none_of-weaker _ (λ r. within Kind.Declaration Kind.Wildcard r.kind) (λ r. or_left _ _) ys k in
+      let kinds = none_of-weaker _ (λ r. within Kind.Declaration Kind.Wildcard r.kind) (λ r e. (or_parts _ _ e).0) ys k in
       let none_is = none_of-weaker _ (is Kind.Declaration) (λ (r : Rec (List ℕ) P). outside-is 1 3 1 r.kind refl) ys kinds in
       let head-is : is Kind.Declaration h ≡ false = rw (eqb-true h.kind 10 e) in
       rw (context-before xs ys h head-is kinds) (endless-before (context_of (xs ++ (h ∷ []))) 0 xs ys h head-is none_is)
@@ -173,7 +174,7 @@ module _ {P : Type 0} where
       → context_of rs ≡ context_of (lead_of rs)
   context-of-lead same rs p =
       let h = p.head in
-      let kinds = none_of-weaker _ (λ r. within Kind.Declaration Kind.Wildcard r.kind) (λ r. or_left _ _) p.body p.body_kinds in
+      let kinds = none_of-weaker _ (λ r. within Kind.Declaration Kind.Wildcard r.kind) (λ r e. (or_parts _ _ e).0) p.body p.body_kinds in
       let head-is : is Kind.Declaration h ≡ false = rw (eqb-true h.kind 10 p.head_kind) in
       ap context_of p.split
       ∙ context-before p.before p.body h head-is kinds

@@ -9,9 +9,10 @@ use mathlib.Core.List.{List, [], ◌∷◌, map, flat_map}
 use lib.ListN.{length, length-append, length-take, take}
 use lib.Dec.{leb, eqb, ltb}
 use borrow.Author.Tests.{ltb-true, leb-true, eqb-true, lt-ltb}
-use Rattle.rules.specs.Words.{within, number_if, only_if, select, front, rest, Item, items}
+use Rattle.std.proofs.lemmas.Bool.{and_parts}
+use Rattle.rules.specs.Words.{within, number_if, only_if, front, rest, Item, items}
 use Rattle.rules.specs.Items.{sum_of}
-use Rattle.rules.proofs.Lists.{and_left, and_right, front_rest}
+use Rattle.rules.proofs.Lists.{front_rest}
 
 -- 1 where the test passes
 abbrev pub one : Bool → ℕ
@@ -65,9 +66,9 @@ one-within x j low high h g =
     (ltb x j)
     (within low high x)
     (ltb x (suc high))
-    (λ p q. omega (arith, ltb-true x j p, leb-true low x (and_left _ _ q)))
+    (λ p q. omega (arith, ltb-true x j p, leb-true low x (and_parts _ _ q).0))
     (λ p. lt-ltb x (suc high) (omega (arith, ltb-true x j p)))
-    (λ q. lt-ltb x (suc high) (omega (arith, leb-true x high (and_right (leb low x) _ q))))
+    (λ q. lt-ltb x (suc high) (omega (arith, leb-true x high (and_parts (leb low x) _ q).1)))
 
 pub one-eqb : (x j k : ℕ) → j ≤ k → below x j + one (eqb x k) ≤ below x (suc k)
 one-eqb x j k h =
@@ -93,12 +94,6 @@ module _ {A : Type 0} where
 
   pub take_bound : (n : ℕ) (xs : List A) → (length (take n xs) ≤ n) × (length (take n xs) ≤ length xs)
   take_bound n xs = rw length-take (omega arith)
-
-  pub select-bound : (p : A → Bool) (xs : List A) → length (select p xs) ≤ length xs
-  unfolding select
-  select-bound p [] = zero-le
-  select-bound p (x ∷ xs) =
-      rw (length-append, length-only_if) (omega (arith, one-bound (p x), select-bound p xs))
 
   -- a list is as long as its front and its rest
   pub front-rest-length : (p : A → Bool) (xs : List A) → length (front p xs) + length (rest p xs) ≡ length xs

@@ -2,23 +2,8 @@
 use mathlib.Core.Path.{◌≡◌, refl, ap, sym, ◌∙◌}
 use mathlib.Core.Bool.{Bool, true, false, not, ◌&&◌, ◌||◌, true≢false, and_assoc}
 use mathlib.Core.List.{List, [], ◌∷◌, ◌++◌}
+use Rattle.std.proofs.lemmas.Bool.{and_parts, or_parts}
 use Rattle.rules.specs.Words.{any_of, select, only_if, front, rest, items}
-
-pub or_left : (a b : Bool) → (a || b) ≡ false → a ≡ false
-or_left true b h = h
-or_left false b h = refl
-
-pub or_right : (a b : Bool) → (a || b) ≡ false → b ≡ false
-or_right true b h = cc
-or_right false b h = h
-
-pub and_left : (a b : Bool) → (a && b) ≡ true → a ≡ true
-and_left true b h = refl
-and_left false b h = h
-
-pub and_right : (a b : Bool) → (a && b) ≡ true → b ≡ true
-and_right true b h = h
-and_right false b h = cc
 
 module _ {A : Type 0} where
   -- there is no element
@@ -53,7 +38,7 @@ module _ {A : Type 0} where
   pub none_of-weaker : (p q : A → Bool) → ((x : A) → p x ≡ false → q x ≡ false) → (xs : List A) → any_of p xs ≡ false → any_of q xs ≡ false
   unfolding any_of
   none_of-weaker p q w [] h = refl
-  none_of-weaker p q w (x ∷ xs) h = rw (w x (or_left (p x) _ h)) (none_of-weaker p q w xs (or_right (p x) _ h))
+  none_of-weaker p q w (x ∷ xs) h = rw (w x (or_parts (p x) _ h).0) (none_of-weaker p q w xs (or_parts (p x) _ h).1)
 
   pub none_of-false : (xs : List A) → any_of (λ x. false) xs ≡ false
   unfolding any_of
@@ -68,17 +53,17 @@ module _ {A : Type 0} where
     pub front-past : (xs ys : List A) → any_of start xs ≡ false → front (λ x. not (start x)) (xs ++ ys) ≡ xs ++ front (λ x. not (start x)) ys
     unfolding any_of front
     front-past [] ys h = refl
-    front-past (x ∷ xs) ys h = rw (or_left (start x) _ h, front) (ap (λ zs. x ∷ zs) (front-past xs ys (or_right (start x) _ h)))
+    front-past (x ∷ xs) ys h = rw ((or_parts (start x) _ h).0, front) (ap (λ zs. x ∷ zs) (front-past xs ys (or_parts (start x) _ h).1))
 
     pub rest-past : (xs ys : List A) → any_of start xs ≡ false → rest (λ x. not (start x)) (xs ++ ys) ≡ rest (λ x. not (start x)) ys
     unfolding any_of rest
     rest-past [] ys h = refl
-    rest-past (x ∷ xs) ys h = rw (or_left (start x) _ h, rest) (rest-past xs ys (or_right (start x) _ h))
+    rest-past (x ∷ xs) ys h = rw ((or_parts (start x) _ h).0, rest) (rest-past xs ys (or_parts (start x) _ h).1)
 
     pub items-past : (xs ys : List A) → any_of start xs ≡ false → items start (xs ++ ys) ≡ items start ys
     unfolding any_of items
     items-past [] ys h = refl
-    items-past (x ∷ xs) ys h = rw (or_left (start x) _ h, items) (items-past xs ys (or_right (start x) _ h))
+    items-past (x ∷ xs) ys h = rw ((or_parts (start x) _ h).0, items) (items-past xs ys (or_parts (start x) _ h).1)
 
   -- a list is its front and its rest
   pub front_rest : (p : A → Bool) (xs : List A) → front p xs ++ rest p xs ≡ xs
@@ -99,7 +84,7 @@ module _ {A : Type 0} where
       → all_of p xs ≡ true → Each P xs → Each Q xs
   unfolding all_of
   each_of p f h each_nil = each_nil
-  each_of p f h (each-cons {x} {xs} k ks) = each-cons (f x (and_left (p x) _ h) k) (each_of p f (and_right (p x) _ h) ks)
+  each_of p f h (each-cons {x} {xs} k ks) = each-cons (f x (and_parts (p x) _ h).0 k) (each_of p f (and_parts (p x) _ h).1 ks)
 
   pub all_of-same : {p q : A → Bool} {xs : List A} → Each (λ x. p x ≡ q x) xs → all_of p xs ≡ all_of q xs
   unfolding all_of
@@ -138,10 +123,10 @@ module _ {A : Type 0} where
   pub none_of-front : (p q : A → Bool) (xs : List A) → any_of p xs ≡ false → any_of p (front q xs) ≡ false
   unfolding any_of front
   none_of-front p q [] h = refl
-  none_of-front p q (x ∷ xs) h = go (q x) refl (none_of-front p q xs (or_right (p x) _ h))
+  none_of-front p q (x ∷ xs) h = go (q x) refl (none_of-front p q xs (or_parts (p x) _ h).1)
     where
       go : (b : Bool) → q x ≡ b → any_of p (front q xs) ≡ false → any_of p (front q (x ∷ xs)) ≡ false
-      go true e ih = rw (e, front, or_left (p x) _ h) ih
+      go true e ih = rw (e, front, (or_parts (p x) _ h).0) ih
       go false e ih = rw (e, front)
 
   -- what passes no test may be left off behind an element
@@ -153,7 +138,7 @@ module _ {A : Type 0} where
   pub select-none : (p : A → Bool) (ys : List A) → any_of p ys ≡ false → select p ys ≡ []
   unfolding any_of select
   select-none p [] h = refl
-  select-none p (y ∷ ys) h = rw (or_left (p y) _ h) (select-none p ys (or_right (p y) _ h))
+  select-none p (y ∷ ys) h = rw (or_parts (p y) _ h).0 (select-none p ys (or_parts (p y) _ h).1)
 
   pub select-before : (p : A → Bool) (xs ys : List A) (y : A) → any_of p ys ≡ false → select p (xs ++ (y ∷ ys)) ≡ select p (xs ++ (y ∷ []))
   unfolding select

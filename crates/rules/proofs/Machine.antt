@@ -3,9 +3,10 @@
 use mathlib.Core.Path.{◌≡◌, refl, sym, ap, ◌∙◌}
 use mathlib.Core.Bool.{Bool, true, false, not, ◌&&◌, ◌||◌, true≢false, and-true, and_assoc}
 use mathlib.Core.List.{List, [], ◌∷◌}
+use Rattle.std.proofs.lemmas.Bool.{or_parts}
 use Rattle.rules.specs.Words.{any_of, front, Item, items}
 use Rattle.rules.specs.Grammar.{Step, to, fault, lifted, guarded}
-use Rattle.rules.proofs.Lists.{all_of, or_left, or_right}
+use Rattle.rules.proofs.Lists.{all_of}
 
 module _ {S : Type 0} where
   pub to-inj : {s t : S} → to s ≡ to t → s ≡ t
@@ -90,8 +91,8 @@ module _ {S U A : Type 0} where
   unfolding reads any_of
   reads-lifted inner inner_done outer outer_done f bad same_step same_end s [] k = same_end s
   reads-lifted inner inner_done outer outer_done f bad same_step same_end s (x ∷ xs) k =
-      rw (same_step s x (or_left (bad x) _ k), reads)
-      (go (inner s x) (λ t. reads-lifted inner inner_done outer outer_done f bad same_step same_end t xs (or_right (bad x) _ k)))
+      rw (same_step s x (or_parts (bad x) _ k).0, reads)
+      (go (inner s x) (λ t. reads-lifted inner inner_done outer outer_done f bad same_step same_end t xs (or_parts (bad x) _ k).1))
     where
       go : (n : Step S) → ((t : S) → reads outer outer_done (f t) xs ≡ reads inner inner_done t xs)
           → reads_on outer outer_done (lifted f n) xs ≡ reads_on inner inner_done n xs

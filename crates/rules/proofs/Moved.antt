@@ -7,13 +7,13 @@ use mathlib.Core.Bool.{Bool, true, false, not, ◌&&◌, ◌||◌}
 use mathlib.Core.List.{List, [], ◌∷◌, map, flat_map}
 use lib.Dec.{eqb}
 use borrow.Author.Tests.{eqb-true}
+use Rattle.std.proofs.lemmas.Bool.{and_parts}
 use Rattle.rules.specs.Words.{number_if, any_of, member, same_bytes, Item}
 use Rattle.rules.specs.Record.{Rec}
 use Rattle.rules.specs.Context.{ValidationContext}
 use Rattle.rules.specs.Rule.{Found}
 use Rattle.rules.specs.Bodies.{Scheme, Slot, is_member, slots, slot_of, retired_ordinal, retired_ordinals, list_violations}
 use Rattle.rules.specs.Items.{Moved, moved-nil, stay, swap, and_then}
-use Rattle.rules.proofs.Lists.{and_left, and_right}
 use Rattle.rules.proofs.Occurrences.{tally}
 use Rattle.rules.proofs.ItemCounts.{Known, or_also, after, known, rule_tally, member_tally, items_tally, list-tally, any-slots}
 
@@ -27,7 +27,7 @@ same_bytes-tells [] [] h = refl
 same_bytes-tells [] (y ∷ ys) h = cc
 same_bytes-tells (x ∷ xs) [] h = cc
 same_bytes-tells (x ∷ xs) (y ∷ ys) h =
-    ap₂ ◌∷◌ (eqb-true x y (and_left (eqb x y) _ h)) (same_bytes-tells xs ys (and_right (eqb x y) _ h))
+    ap₂ ◌∷◌ (eqb-true x y (and_parts (eqb x y) _ h).0) (same_bytes-tells xs ys (and_parts (eqb x y) _ h).1)
 
 or_swap : (a b c : Bool) → (a || (b || c)) ≡ (b || (a || c))
 or_swap true true c = refl

@@ -8,6 +8,7 @@ use lib.ListN.{length}
 use lib.Dec.{leb, eqb, ltb}
 use native.Mathlib.Omega.{arith}
 use borrow.Author.Tests.{eqb-true, eqb-false, leb-true}
+use Rattle.std.proofs.lemmas.Bool.{and_parts}
 use Rattle.rules.specs.Words.{within, only_if, first_is, any_of, select, rest, Item}
 use Rattle.rules.specs.Kind
 use Rattle.rules.specs.Sub
@@ -20,7 +21,6 @@ use Rattle.rules.specs.Annotations.{max_limit, is_word, limit_value_violations, 
 use Rattle.rules.specs.Types.{is_invalid_map_key, key_violations, element_violations, bit_name_violations, own_type_violations, types_violations, checked_parts}
 use Rattle.rules.specs.Conditions.{Literals, length_literals, literals_of, operands_of, operand_violations, own_condition_violations, condition_violations}
 use Rattle.rules.specs.Bodies.{in_annotations, in_type, type_part, field_violations}
-use Rattle.rules.proofs.Lists.{and_left, and_right}
 use Rattle.rules.proofs.Every.{Every, EveryOf, every-nil, every-cons, every_front, every_rest, every_take, every-items-as, every-as, every-front-as}
 use Rattle.rules.proofs.Mapped.{map_item, take-map, first_is-map, front-map, rest-map, items_map, any_same, select-same, flat_map-map, flat_map-same}
 use Rattle.rules.proofs.Unused.{if-same}
@@ -34,8 +34,8 @@ annotated r h = go (is Kind.Annotation r) refl
     go : (b : Bool) → is Kind.Annotation r ≡ b → has_name_of is_worded r ≡ true
     go true e = named is_worded Kind.Annotation refl refl r e
     go false e =
-        let low = leb-true Kind.Annotation r.kind (and_left (leb Kind.Annotation r.kind) _ h) in
-        let high = leb-true r.kind Kind.Argument (and_right (leb Kind.Annotation r.kind) _ h) in
+        let low = leb-true Kind.Annotation r.kind (and_parts (leb Kind.Annotation r.kind) _ h).0 in
+        let high = leb-true r.kind Kind.Argument (and_parts (leb Kind.Annotation r.kind) _ h).1 in
         let argument : r.kind ≡ Kind.Argument = omega (arith, eqb-false r.kind Kind.Annotation e) in
         rw argument
 
@@ -43,8 +43,8 @@ annotated r h = go (is Kind.Annotation r) refl
 constant : {N P : Type 0} (o : Rec N P) → is_of Kind.Operand Sub.ConstRef o ≡ true → has_name_of is_compared o ≡ true
 unfolding any_of
 constant o e =
-    let kind = eqb-true o.kind Kind.Operand (and_left (is Kind.Operand o) (eqb o.sub Sub.ConstRef) e) in
-    rw (and_right (is Kind.Operand o) (eqb o.sub Sub.ConstRef) e, kind)
+    let kind = eqb-true o.kind Kind.Operand (and_parts (is Kind.Operand o) (eqb o.sub Sub.ConstRef) e).0 in
+    rw ((and_parts (is Kind.Operand o) (eqb o.sub Sub.ConstRef) e).1, kind)
 
 -- what is asked of a field's type, without its names
 module _ {M N P : Type 0} (g : M → N) where

@@ -8,12 +8,12 @@ use mathlib.Core.Bool.{Bool, true, false, ◌&&◌, true≢false}
 use mathlib.Core.List.{List, [], ◌∷◌, ◌++◌}
 use mathlib.Core.Option.{Option, some, none}
 use lib.ListN.{length}
+use Rattle.std.proofs.lemmas.Bool.{and_parts}
 use Rattle.rules.specs.Kind
 use Rattle.rules.specs.Sub
 use Rattle.rules.specs.Record.{Rec, is_of}
 use Rattle.rules.specs.Context.{ValidationContext, never_ends}
 use Rattle.rules.specs.Refusals.{Fault, leads_nowhere, endless_chain}
-use Rattle.rules.proofs.Lists.{and_left, and_right}
 use Rattle.rules.specs.Refused.{NewtypeIn}
 
 module _ {N P : Type 0} where
@@ -42,13 +42,13 @@ module _ {N P : Type 0} (ctx : ValidationContext N P) where
 
   ring-here : (i : ℕ) (r : Rec N P) (rs : List (Rec N P)) → (is_of Kind.Declaration Sub.Newtype r && leads_nowhere ctx rs) ≡ true
       → Ring i (r ∷ rs) i
-  ring-here i r [] h = absurd (true≢false (sym (and_right (is_of Kind.Declaration Sub.Newtype r) false h)))
+  ring-here i r [] h = absurd (true≢false (sym (and_parts (is_of Kind.Declaration Sub.Newtype r) false h).1))
   ring-here i r (t ∷ rs) h =
-      let declares = and_left (is_of Kind.Declaration Sub.Newtype r) (never_ends ctx t) h in
+      let declares = (and_parts (is_of Kind.Declaration Sub.Newtype r) (never_ends ctx t) h).0 in
       record {
         newtype = record { before = []; declaration = r; inner = t; after = rs; split = refl; kind = declares };
         place = omega arith;
-        endless = and_right (is_of Kind.Declaration Sub.Newtype r) (never_ends ctx t) h;
+        endless = (and_parts (is_of Kind.Declaration Sub.Newtype r) (never_ends ctx t) h).1;
       }
 
   ring-later : (i : ℕ) (r : Rec N P) (rs : List (Rec N P)) {o : Option Fault} → RowNine (suc i) rs o → RowNine i (r ∷ rs) o

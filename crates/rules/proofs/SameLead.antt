@@ -3,9 +3,11 @@
 use native.Mathlib.Omega.{arith}
 use mathlib.Core.Path.{◌≡◌, refl, ap, ◌∙◌, sym}
 use mathlib.Core.Bool.{Bool, true, false, not, ◌||◌}
+use mathlib.Core.Logic.{inl, inr}
 use mathlib.Core.List.{List, [], ◌∷◌, ◌++◌}
 use lib.Dec.{eqb}
 use borrow.Author.Tests.{eqb-true, ne_eqb}
+use Rattle.std.proofs.lemmas.Bool.{or_cases, not-false}
 use Rattle.rules.specs.Words.{only_if, select, front, rest, items}
 use Rattle.rules.specs.Kind
 use Rattle.rules.specs.Sub
@@ -13,9 +15,9 @@ use Rattle.rules.specs.Record.{Rec, is}
 use Rattle.rules.specs.Grammar.{start, starts_item}
 use Rattle.rules.specs.Items.{lead_of, items_of}
 use Rattle.rules.proofs.Lists.{Each, each-cons, none_of-weaker}
-use Rattle.rules.proofs.Taken.{within-true, within-false, or_cases}
+use Rattle.rules.proofs.Taken.{within-true, within-false}
 use Rattle.rules.proofs.Accepted.{Parts}
-use Rattle.rules.proofs.Lead.{starts_at, from-head, lead-from-head, items-from-head}
+use Rattle.rules.proofs.Lead.{starts_at, from-head, lead-from-head, accepted-rest, accepted-items}
 use Rattle.rules.proofs.BodyKinds.{accepted-enum, accepted-newtype}
 use Rattle.rules.proofs.Cut.{front-whole}
 
@@ -37,22 +39,16 @@ module _ {A : Type 0} (starts p : A → Bool) (apart : (x : A) → starts x ≡ 
       by-test true e later = rw (e, front, apart x e) (past later (rw (e, items) at alone))
       by-test false e later = rw (e, front) (ap (λ ys. only_if (p x) (x ∷ []) ++ ys) (later (rw (e, items) at alone)))
 
-not-false : (b : Bool) → not b ≡ false → b ≡ true
-not-false true e = refl
-not-false false e = cc
-
 module _ {N P : Type 0} where
   item-no-backing : (r : Rec N P) → starts_item r ≡ true → is Kind.Backing r ≡ false
   item-no-backing r e = let k = within-true 14 15 r.kind e in ne_eqb r.kind 16 (λ q. omega arith)
 
   type-no-item : (r : Rec N P) → not (is Kind.BitName r || Kind.is_type r.kind) ≡ false → starts_item r ≡ false
   type-no-item r e =
-      or_cases
-      (is Kind.BitName r)
-      (Kind.is_type r.kind)
-      (not-false _ e)
-      (λ d. rw (eqb-true r.kind Kind.BitName d))
-      (λ d. let k = within-true 30 48 r.kind d in within-false 14 15 r.kind (λ low high. omega arith))
+      elim (or_cases (is Kind.BitName r) (Kind.is_type r.kind) (not-false _ e)) [
+        | inl d ↦ rw (eqb-true r.kind Kind.BitName d)
+        | inr d ↦ let k = within-true 30 48 r.kind d in within-false 14 15 r.kind (λ low high. omega arith)
+      ]
 
   module _ {same : N → N → Bool} {rs : List (Rec N P)} (p : Parts same start [] 0 rs) where
     -- the body up to its first item
@@ -65,13 +61,6 @@ module _ {N P : Type 0} where
         ap (λ rs. rest (λ r. not (is Kind.Head r)) (lead_of rs)) p.split
         ∙ ap (rest (λ r. not (is Kind.Head r))) (lead-from-head p.before p.head p.body p.head_kind p.before_kinds)
         ∙ from-head p.before p.head body_lead p.head_kind p.before_kinds
-
-    begins-at : rest (λ r. not (is Kind.Head r)) rs ≡ p.head ∷ p.body
-    begins-at =
-        ap (rest (λ r. not (is Kind.Head r))) p.split ∙ from-head p.before p.head p.body p.head_kind p.before_kinds
-
-    items-are : items_of rs ≡ items (starts_at p.head.sub) p.body
-    items-are = ap items_of p.split ∙ items-from-head p.before p.head p.body p.head_kind p.before_kinds
 
     backings-lead : eqb p.head.sub Sub.EnumHead ≡ true → select (is Kind.Backing) p.body ≡ select (is Kind.Backing) body_lead
     unfolding body_lead
@@ -119,10 +108,10 @@ module _ {N P : Type 0} {same : N → N → Bool} {rs rs' : List (Rec N P)} wher
         head = p.head;
         body = p.body;
         body' = p'.body;
-        begins = begins-at p;
-        begins' = rw heads (begins-at p');
-        items_are = items-are p;
-        items_are' = rw heads (items-are p');
+        begins = accepted-rest p;
+        begins' = rw heads (accepted-rest p');
+        items_are = accepted-items p;
+        items_are' = rw heads (accepted-items p');
         backings = λ q. backings-lead p q ∙ ap (select (is Kind.Backing)) leads ∙ sym (backings-lead p' (rw heads at q));
         inner = λ a b c d. sym (inner-lead p a b c d)
             ∙ leads

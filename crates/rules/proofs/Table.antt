@@ -5,7 +5,7 @@ use mathlib.Core.Path.{◌≡◌, refl, ap₂, subst⁻¹}
 use mathlib.Core.Bool.{Bool, true, false, ◌&&◌}
 use mathlib.Core.List.{List, [], ◌∷◌, Memᴰ}
 use lib.Dec.{eqb}
-use borrow.Author.Tests.{eqb-true}
+use Rattle.std.proofs.lemmas.Bool.{eqb-true, and_parts}
 use Rattle.rules.specs.declared.violation.Violation.{Violation}
 use Rattle.rules.specs.declared.answer.AnswerValues.{AnswerValues}
 use Rattle.rules.specs.Answer.{answer}
@@ -41,24 +41,12 @@ table-passes : table_test table ≡ true
 unfolding computed table_test case_test same_values same_list same_violation table told
 table-passes = refl
 
-and_left : (a b : Bool) → (a && b) ≡ true → a ≡ true
-and_left true b h = refl
-and_left false b h = h
-
-and_right : (a b : Bool) → (a && b) ≡ true → b ≡ true
-and_right true b h = h
-and_right false b h = cc
-
 -- four numbers that pass the test are the same
 four : (a b c d a' b' c' d' : ℕ) → (eqb a a' && eqb b b' && eqb c c' && eqb d d') ≡ true → (a ≡ a') × (b ≡ b') × (c ≡ c') × (d ≡ d')
 four a b c d a' b' c' d' h =
-    let abc = and_left (eqb a a' && eqb b b' && eqb c c') (eqb d d') h in
-    let ab = and_left (eqb a a' && eqb b b') (eqb c c') abc in (
-      eqb-true a a' (and_left (eqb a a') (eqb b b') ab),
-      eqb-true b b' (and_right (eqb a a') (eqb b b') ab),
-      eqb-true c c' (and_right (eqb a a' && eqb b b') (eqb c c') abc),
-      eqb-true d d' (and_right (eqb a a' && eqb b b' && eqb c c') (eqb d d') h),
-    )
+    let abcd = and_parts (eqb a a' && eqb b b' && eqb c c') (eqb d d') h in
+    let abc = and_parts (eqb a a' && eqb b b') (eqb c c') abcd.0 in
+    let ab = and_parts (eqb a a') (eqb b b') abc.0 in (eqb-true a a' ab.0, eqb-true b b' ab.1, eqb-true c c' abc.1, eqb-true d d' abcd.1)
 
 same-violation : (v w : Violation) → same_violation v w ≡ true → v ≡ w
 unfolding same_violation
@@ -72,7 +60,7 @@ same-list [] [] h = refl
 same-list [] (w ∷ ws) h = cc
 same-list (v ∷ vs) [] h = cc
 same-list (v ∷ vs) (w ∷ ws) h =
-    ap₂ ◌∷◌ (same-violation v w (and_left _ _ h)) (same-list vs ws (and_right (same_violation v w) _ h))
+    ap₂ ◌∷◌ (same-violation v w (and_parts _ _ h).0) (same-list vs ws (and_parts (same_violation v w) _ h).1)
 
 same-values : (a b : AnswerValues) → same_values a b ≡ true → a ≡ b
 unfolding same_values
@@ -87,14 +75,14 @@ Holds c = (answer c.sheet c.names ≡ c.expected) × (told c.sheet c.names ≡ c
 case-holds : (c : Case) → case_test c ≡ true → Holds c
 unfolding case_test Holds
 case-holds c h = (
-  same-values _ _ (and_left (same_values (answer c.sheet c.names) c.expected) _ h),
-  same-list _ _ (and_right (same_values (answer c.sheet c.names) c.expected) _ h),
+  same-values _ _ (and_parts (same_values (answer c.sheet c.names) c.expected) _ h).0,
+  same-list _ _ (and_parts (same_values (answer c.sheet c.names) c.expected) _ h).1,
 )
 
 rows-hold : (c : Case) (cs : List Case) → table_test cs ≡ true → Memᴰ c cs → Holds c
 unfolding table_test
-rows-hold c cs h (Memᴰ.head {x} e) = subst⁻¹ Holds e (case-holds x (and_left _ _ h))
-rows-hold c cs h (Memᴰ.tail {x} {xs} m) = rows-hold c xs (and_right (case_test x) _ h) m
+rows-hold c cs h (Memᴰ.head {x} e) = subst⁻¹ Holds e (case-holds x (and_parts _ _ h).0)
+rows-hold c cs h (Memᴰ.tail {x} {xs} m) = rows-hold c xs (and_parts (case_test x) _ h).1 m
 
 -- every row of the table holds
 pub table-holds : (c : Case) → Memᴰ c table → (answer c.sheet c.names ≡ c.expected) × (told c.sheet c.names ≡ c.list)

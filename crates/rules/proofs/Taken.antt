@@ -2,31 +2,29 @@
 use Prim.Native.Nat.{ℕ, suc, ◌≤◌}
 use mathlib.Core.Path.{◌≡◌, refl, sym, ◌∙◌}
 use mathlib.Core.Bool.{Bool, true, false, not, ◌&&◌, ◌||◌, true≢false}
+use mathlib.Core.Logic.{inl, inr}
 use mathlib.Core.List.{List, [], ◌∷◌, ◌++◌, map}
 use native.Mathlib.Omega.{arith}
 use lib.Dec.{leb, ltb, eqb}
 use borrow.Author.Tests.{leb-true, le-leb, eqb-true, ne_eqb}
+use Rattle.std.proofs.lemmas.Bool.{and_parts, or_cases}
 use Rattle.rules.specs.Words.{within, only_if}
 use Rattle.rules.specs.Kind
 use Rattle.rules.specs.Kind.{Part, type, condition, operand}
 use Rattle.rules.specs.Record.{Rec, is}
 use Rattle.rules.specs.Grammar.{to, Due, TypeState, FieldState, annotations, typed, conditioned, type_due, due_at, max_depth, none_due, backing_may_come, items, in_union_item, FieldListState, between, field, UnionState, outside, variant, EnumState, part_step, type_step, field_step, field_list_step, starts_field_item, starts_item, in_field_item, enum_step, union_step}
-use Rattle.rules.proofs.Lists.{and_left, and_right, all_of, all_of-append}
+use Rattle.rules.proofs.Lists.{all_of, all_of-append}
 use Rattle.rules.proofs.Machine.{to-inj, guarded-to, lifted-to}
 
 -- a number from low to high, as facts
 pub within-true : (low high n : ℕ) → within low high n ≡ true → (low ≤ n) × (n ≤ high)
 within-true low high n h = (
-  leb-true low n (and_left (leb low n) (leb n high) h),
-  leb-true n high (and_right (leb low n) (leb n high) h),
+  leb-true low n (and_parts (leb low n) (leb n high) h).0,
+  leb-true n high (and_parts (leb low n) (leb n high) h).1,
 )
 
 pub within-intro : (low high n : ℕ) → low ≤ n → n ≤ high → within low high n ≡ true
 within-intro low high n p q = rw (le-leb low n p, le-leb n high q)
-
-pub or_cases : {C : Type 0} (a b : Bool) → (a || b) ≡ true → (a ≡ true → C) → (b ≡ true → C) → C
-or_cases true b h f g = f refl
-or_cases false b h f g = g h
 
 -- a number that lies elsewhere
 pub within-false : (low high n : ℕ) → (low ≤ n → n ≤ high → ⊥) → within low high n ≡ false
@@ -50,9 +48,10 @@ outside-is low high j n p q = ne_eqb n j (λ e. absurd (true≢false (sym p ∙ 
 pub field_list-range : (k : ℕ) → (within Kind.Field Kind.Invariant k || leb Kind.Annotation k) ≡ true
     → (11 ≤ k) × (within Kind.Variant Kind.Backing k ≡ false)
 field_list-range k h =
-    or_cases (within 11 13 k) (leb 20 k) h
-    (λ e. let w = within-true 11 13 k e in (omega arith, within-false 14 16 k (λ p q. omega arith)))
-    (λ e. let w = leb-true 20 k e in (omega arith, within-false 14 16 k (λ p q. omega arith)))
+    elim (or_cases (within 11 13 k) (leb 20 k) h) [
+      | inl e ↦ let w = within-true 11 13 k e in (omega arith, within-false 14 16 k (λ p q. omega arith))
+      | inr e ↦ let w = leb-true 20 k e in (omega arith, within-false 14 16 k (λ p q. omega arith))
+    ]
 
 -- the parts of types and conditions, and the types, annotations and conditions of fields have the kinds from 20 on
 part-from : (p : Part) (k : ℕ) → Kind.is_part p k ≡ true → 20 ≤ k
@@ -108,14 +107,14 @@ module _ {N P : Type 0} where
       go q true false e f = (
         e,
         rw (← (to-inj (rw (q, e, f, part_step) at h)), all_of-append is_type_due (map (due_at (suc d.depth)) (Kind.parts_of r.kind)) ds)
-            (rw (type-parts (suc d.depth) r.kind e) (and_right (is_type_due d) _ a)),
+            (rw (type-parts (suc d.depth) r.kind e) (and_parts (is_type_due d) _ a).1),
       )
       go q false c e f = let z : true ≡ false = cc (rw (q, e, part_step) at h) in absurd (true≢false z)
 
       on : (p : Part) → d.part ≡ p → (Kind.is_type r.kind ≡ true) × (all_of is_type_due es ≡ true)
       on type q = go q (Kind.is_type r.kind) (ltb max_depth d.depth) refl refl
-      on condition q = absurd (true≢false (sym (rw q at (and_left (is_type_due d) _ a))))
-      on operand q = absurd (true≢false (sym (rw q at (and_left (is_type_due d) _ a))))
+      on condition q = absurd (true≢false (sym (rw q at (and_parts (is_type_due d) _ a).0)))
+      on operand q = absurd (true≢false (sym (rw q at (and_parts (is_type_due d) _ a).0)))
 
   -- so is a bit name
   pub type-type : (s : TypeState) (r : Rec N P) {t : TypeState} → all_of is_type_due s.due ≡ true → type_step s r ≡ to t
@@ -178,7 +177,7 @@ module _ {N P : Type 0} where
       go true e = let k = within-true 14 15 r.kind e in within-intro 14 16 r.kind (omega arith) (omega arith)
       go false e =
           let g = guarded-to (backing_may_come s && is Kind.Backing r) (to items) (rw (e, enum_step) at h) in
-          let k = eqb-true r.kind 16 (and_right (backing_may_come s) (is Kind.Backing r) g.0) in
+          let k = eqb-true r.kind 16 (and_parts (backing_may_come s) (is Kind.Backing r) g.0).1 in
           within-intro 14 16 r.kind (omega arith) (omega arith)
 
   in-union-item : (s : UnionState) (r : Rec N P) {t : UnionState} → in_union_item s r ≡ to t

@@ -99,7 +99,3 @@ unfolding passes any_of
 none-fails-in test [] = refl
 none-fails-in test (x ∷ xs) =
     rw (behind-first (λ i. test (get_or (x ∷ xs) i 0)) 0 (length xs), none-fails-in test xs, all-or-none)
-
-pub neither : (a b : Bool) → (a || b) ≡ false → (a ≡ false) × (b ≡ false)
-neither true b h = (h, cc)
-neither false b h = (refl, h)
