@@ -15,7 +15,7 @@ use Rattle.rules.specs.Context.{starts_name, continues_name, valid_field_name}
 use Rattle.sheet.specs.Window.{passes}
 use Rattle.sheet.specs.Mark.{name_mark, HasMarks, starts_by, continues_by, continues_at, continue_by, valid_by}
 use Rattle.sheet.proofs.Below.{passes_below, first_passes, second-passes, passes_at}
-use Rattle.sheet.proofs.Windows.{none-fails, split, one_more, windows-meet, none-fails-in, all-or-none}
+use Rattle.sheet.proofs.Windows.{split, windows-meet, none-fails-in, all-or-none}
 
 -- the test of a table: each of its entries is the mark of its byte
 unfoldable pub marks_bytes : List ℕ → Bool
@@ -110,17 +110,8 @@ module _ (marks : List ℕ) where
   all_continue [] = refl
   all_continue (b ∷ bytes) = rw (all_continue bytes) (all-or-none (continues_by marks b) _)
 
-  -- four bytes, and eight
+  -- eight bytes are four and four
   module _ (text : List ℕ) (at : ℕ) where
-    pub four-pass :
-        (a b c d : Bool) → a ≡ continues_by marks (get_or text at 0) → b ≡ continues_by marks (get_or text (at + 1) 0) → c ≡ continues_by marks (get_or text (at + 2) 0) →
-        d ≡ continues_by marks (get_or text (at + 3) 0) → (a && b && c && d) ≡ passes (continues_at marks text) at 4
-    four-pass a b c d ha hb hc hd =
-        let start : at + 0 ≡ at = omega arith in
-        one_more (continues_at marks text) at 3 (a && b && c) d
-        (one_more (continues_at marks text) at 2 (a && b) c
-        (one_more (continues_at marks text) at 1 a b (one_more (continues_at marks text) at 0 true a (none-fails (continues_at marks text) at) (rw start ha)) hb) hc) hd
-
     pub eight-pass :
         (a b : Bool) → a ≡ passes (continues_at marks text) at 4 → b ≡ passes (continues_at marks text) (at + 4) 4 → (a && b) ≡ passes (continues_at marks text) at 8
     eight-pass a b ha hb = rw (ha, hb) (sym (split (continues_at marks text) at 4 4))
@@ -132,3 +123,6 @@ module _ (marks : List ℕ) where
   unfolding continue_by
   ends-continue text n front back few most f b =
       windows-meet (continues_at marks text) (length text - n) n n (length text) front back f b (omega arith) (omega arith) few ∙ none-fails-in (continues_by marks) text
+
+-- what the windows and the table say of a whole text
+pub ruleset marks = (eight-pass, valid-by)

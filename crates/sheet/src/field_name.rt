@@ -105,6 +105,7 @@ fn continues_by(marks: &[u8; 256], b: u8) -> bool
 }
 
 // Whether each of the four bytes from `at` on may go on in a name, by the table.
+#[tactic(auto, unfolding(crate::specs::Window::passes))]
 fn four_continue(marks: &[u8; 256], text: &[u8], at: usize) -> bool
     requires { at + 4 ≤ length text.now }
     ensures { result ≡ passes (continues_at marks.now text.now) at 4 }
@@ -116,6 +117,7 @@ fn four_continue(marks: &[u8; 256], text: &[u8], at: usize) -> bool
 }
 
 // Whether each of the eight bytes from `at` on may.
+#[tactic(auto, using(crate::proofs::Marks::marks))]
 fn eight_continue(marks: &[u8; 256], text: &[u8], at: usize) -> bool
     requires { at + 8 ≤ length text.now }
     ensures { result ≡ passes (continues_at marks.now text.now) at 8 }
@@ -159,6 +161,7 @@ pub fn is_valid_by(marks: &[u8; 256], name: &[u8]) -> bool
 }
 
 // Whether the name starts with a-z or `_` and goes on with letters, digits and `_`.
+#[tactic(auto, using(crate::proofs::Marks::marks))]
 pub fn is_valid_field_name(name: &[u8]) -> bool
     ensures { result ≡ valid_field_name name.now }
 {

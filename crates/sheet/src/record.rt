@@ -21,6 +21,7 @@ pub fn kind(sheet: &[u8], i: usize) -> u8
 }
 
 // The sub; 0 for a kind without subs.
+#[tactic(auto, unfolding(rules::specs::Record::sub_in))]
 pub fn sub(sheet: &[u8], i: usize) -> u8
     ensures { result ≡ sub_in (record_bytes sheet.now i) }
 {
@@ -46,6 +47,7 @@ pub fn span(sheet: &[u8], i: usize) -> Span
 }
 
 // The ordinal's span; empty at 0 for a kind without one.
+#[tactic(auto, unfolding(rules::specs::Record::ordinal_span_in))]
 pub fn ordinal_span(sheet: &[u8], i: usize) -> Span
     ensures { result ≡ ordinal_span_in (record_bytes sheet.now i) }
 {
@@ -57,6 +59,7 @@ pub fn ordinal_span(sheet: &[u8], i: usize) -> Span
 }
 
 // The value: an ordinal, a size or a literal whole; of a sub-byte type 9 bits; 0 for the other kinds.
+#[tactic(auto, unfolding(rules::specs::Record::value_in, rules::specs::Words::any_of))]
 pub fn value(sheet: &[u8], i: usize) -> u64
     ensures { result ≡ value_in (record_bytes sheet.now i) }
 {
