@@ -10,6 +10,7 @@ pub use whole::check;
 
 // The check, as numbers, which `validate_c` exports for callers in other languages. The list gets the violations that fit it, in whole records;
 // a call that is refused changes no byte of it.
+#[tactic(auto, using(crate::proofs::Answers::told_answered))]
 pub fn vexil_check(sheet: &[u8], names: &[u8], list: &mut [u8]) -> AnswerValues
     ensures answered { Answered sheet.now names.now list.old result list.new }
     ensures bytes { IsBytes sheet.now }
