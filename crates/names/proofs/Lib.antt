@@ -27,3 +27,5 @@ pub mod Targeted
 pub mod Renamed
 pub mod Behind
 pub mod Chain
+-- The records of a view.
+pub mod Views

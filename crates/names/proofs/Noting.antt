@@ -11,6 +11,7 @@ use lib.ListN.{length, get_or, take, set, length-set}
 use lib.Seq.{take-suc, length-take-le}
 use lib.Dec.{eqb}
 use borrow.Author.Tests.{eq-eqb, ne_eqb}
+use Rattle.rules.proofs.Lists.{or_swap}
 use Rattle.rules.specs.declared.span.Span.{Span}
 use Rattle.rules.specs.Kind
 use Rattle.rules.specs.Words.{number_if, any_of}
@@ -51,12 +52,7 @@ module _ {A : Type 0} (p : A → Bool) (x : A) where
   any-more : (xs : List A) → any_of p (xs ++ (x ∷ [])) ≡ (p x || any_of p xs)
   unfolding any_of
   any-more [] = refl
-  any-more (y ∷ xs) = ap (p y ||◌) (any-more xs) ∙ go (p y) (p x) (any_of p xs)
-    where
-      go : (b c d : Bool) → (b || (c || d)) ≡ (c || (b || d))
-      go true true d = refl
-      go true false d = refl
-      go false c d = refl
+  any-more (y ∷ xs) = ap (p y ||◌) (any-more xs) ∙ or_swap (p y) (p x) (any_of p xs)
 
 module _ (sheet names : List ℕ) (m : ℕ) (h : m < known_count sheet) where
   abbrev rs : List (Rec (List ℕ) Span)

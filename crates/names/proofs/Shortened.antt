@@ -7,7 +7,7 @@ use mathlib.Core.Bool.{Bool, true, false, true≢false}
 use mathlib.Core.Option.{Option, some, none}
 use Rattle.rules.specs.Record.{Rec}
 use Rattle.rules.specs.Context.{ValidationContext, behind, chain_end, never_ends}
-use Rattle.rules.proofs.Chains.{is_some, chain-stays, chain-fixed}
+use Rattle.rules.proofs.Chains.{is_some, none-there, chain-stays, chain-fixed}
 use Rattle.names.specs.SameEnds.{leads_on, SameEnds, Lasting}
 
 module _ {N P : Type 0} (ctx : ValidationContext N P) where
@@ -24,11 +24,6 @@ module _ {N P : Type 0} (ctx : ValidationContext N P) where
       go : Dec (k ≤ d) → chain_end ctx d r ≡ chain_end ctx k r
       go (yes l) = chain-fixed ctx k r e d l
       go (no l) = sym (chain-fixed ctx d r f k (omega arith))
-
-  -- nothing is there
-  pub none-there : (o : Option (Rec N P)) → is_some o ≡ false → o ≡ none
-  none-there none e = refl
-  none-there (some t) e = absurd (true≢false e)
 
   -- what a type may lead to: the next type of its chain, or the last
   pub data Next (r : Rec N P) (o : Option (Rec N P)) : Type 0 where
@@ -76,7 +71,7 @@ module _ {N P : Type 0} (ctx ctx' : ValidationContext N P) (lasts : Lasting ctx)
     where
       go : (b : Bool) → never_ends ctx r ≡ b → chain_end ctx' ctx.declarations r ≡ chain_end ctx ctx.declarations r
       go true e = endless-same ctx.declarations r (lasts r e)
-      go false e = ended-ends ctx.declarations ctx.declarations r (none-there ctx _ e) (omega arith)
+      go false e = ended-ends ctx.declarations ctx.declarations r (none-there _ e) (omega arith)
 
   pub short-leads : (r : Rec N P) → leads_on ctx r ≡ leads_on ctx' r
   short-leads r = go (next r)

@@ -11,11 +11,11 @@ use Rattle.rules.specs.declared.span.Span.{Span}
 use Rattle.rules.specs.Record.{Rec, is_of}
 use Rattle.rules.specs.Context.{ValidationContext, behind, chain_end, never_ends}
 use Rattle.rules.specs.Refusals.{leads_nowhere}
-use Rattle.rules.proofs.Chains.{is_some}
+use Rattle.rules.proofs.Chains.{is_some, none-there}
 use Rattle.names.specs.View.{view_at, view_of, declarations_of, context_by}
 use Rattle.names.specs.Known.{at_place}
 use Rattle.names.specs.SameEnds.{leads_on, SameEnds, Lasting, with_target}
-use Rattle.names.proofs.Shortened.{none-there, same-itself, same-through}
+use Rattle.names.proofs.Shortened.{same-itself, same-through}
 use Rattle.names.proofs.Targeted.{target-same, target-lasting, rest_end}
 use Rattle.refusals.specs.Ends.{EndsAt, Kept}
 
@@ -63,7 +63,7 @@ module _ (sheet before table : List ℕ) (at end next : ℕ) (kept : Kept sheet 
         end =
             sym (same-now.ends (view_at sheet next))
             ∙ rw add-one (rest_end table sheet at end (ap is_some step) ends.end ends.over (view_at sheet next) step);
-        over = none-there (context_by (with_target table at (end + 1)) sheet) _ (sym (same-now.leads (view_at sheet end)) ∙ ap is_some ends.over);
+        over = none-there _ (sym (same-now.leads (view_at sheet end)) ∙ ap is_some ends.over);
       })
 
 -- by a table that was kept, the same chains never end

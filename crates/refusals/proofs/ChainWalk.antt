@@ -1,31 +1,21 @@
 -- Row 9 takes the newtypes in turn.
-use Prim.Native.Nat.{ℕ, zero, suc, ◌+◌, ◌-◌, ◌/◌, ◌<◌, ◌≤◌}
+use Prim.Native.Nat.{ℕ, zero, suc, ◌+◌, ◌/◌, ◌<◌, ◌≤◌}
 use native.Mathlib.Decide.{dec_lt}
 use native.Mathlib.Omega.{arith}
 use native.Mathlib.Numerals.{add-one}
 use mathlib.Core.Path.{◌≡◌, refl, sym, ap, ◌∙◌}
 use mathlib.Core.Bool.{Bool, true, false, ◌&&◌}
-use mathlib.Core.List.{List, [], ◌∷◌}
+use mathlib.Core.List.{List}
 use mathlib.Core.Option.{Option, some, none}
 use lib.ListN.{length}
 use Rattle.rules.specs.declared.span.Span.{Span}
 use Rattle.rules.specs.Record.{is_of}
 use Rattle.rules.specs.Context.{ValidationContext, never_ends}
 use Rattle.rules.specs.Refusals.{Fault, leads_nowhere, endless_chain}
-use Rattle.names.specs.View.{view_at, view_from, view_of, context_by}
+use Rattle.names.specs.View.{view_at, view_of, context_by}
+use Rattle.names.proofs.Views.{view-cons, view-none}
 use Rattle.refusals.specs.Pass.{Ended}
 use Rattle.refusals.specs.Turned.{endless_by}
-
--- the records of a view
-view-cons : (sheet : List ℕ) (a e : ℕ) → a < e → view_of sheet a e ≡ view_at sheet a ∷ view_of sheet (a + 1) e
-unfolding view_from
-view-cons sheet a e h =
-    let more : e - a ≡ suc (e - (a + 1)) = omega arith in
-    rw (more, view_from, add-one)
-
-view-end : (sheet : List ℕ) (a e : ℕ) → e ≤ a → view_of sheet a e ≡ []
-unfolding view_from
-view-end sheet a e h = let none : e - a ≡ 0 = omega arith in rw none
 
 module _ (table sheet : List ℕ) where
   abbrev ctx : ValidationContext ℕ Span
@@ -40,7 +30,7 @@ module _ (table sheet : List ℕ) where
     other_ends f = rw (← hn, f)
 
     pub last_ends : newtype ≡ true → n ≤ i + 1 → false ≡ (is_of 1 4 (view_at sheet i) && rest)
-    last_ends t h = rw (← hn, t, view-end sheet (i + 1) n h)
+    last_ends t h = rw (← hn, t, view-none sheet (i + 1) n h)
 
     pub newtype_walked : newtype ≡ true → (r : Bool) → i + 1 < n → r ≡ never_ends ctx (view_at sheet (i + 1)) → r ≡ (is_of 1 4 (view_at sheet i) && rest)
     newtype_walked t r h hr = rw (← hn, t, view-cons sheet (i + 1) n h) hr
@@ -63,7 +53,7 @@ module _ (table sheet : List ℕ) where
 
   pub endless-none : (i n : ℕ) (all : Option Fault) → endless_chain ctx i (view_of sheet i n) ≡ all → n ≤ i → none ≡ all
   unfolding endless_chain
-  endless-none i n all inv h = sym (ap (endless_chain ctx i) (view-end sheet i n h)) ∙ inv
+  endless-none i n all inv h = sym (ap (endless_chain ctx i) (view-none sheet i n h)) ∙ inv
 
   pub endless_starts : (n : ℕ) → n ≡ length sheet / 32 → endless_chain ctx 0 (view_of sheet 0 n) ≡ endless_by table sheet
   unfolding endless_by

@@ -25,6 +25,10 @@ module _ {A : Type 0} where
   is_some none = false
   is_some (some x) = true
 
+  pub none-there : (o : Option A) → is_some o ≡ false → o ≡ none
+  none-there none e = refl
+  none-there (some x) e = cc
+
 -- two numbers below n at which the function has the same value
 record Twice (f : ℕ → ℕ) (n : ℕ) : Type 0 where
   low : ℕ
@@ -283,11 +287,7 @@ module _ {N P : Type 0} where
   -- where a chain ends, its end is the same under any greater bound
   pub chain-bound : (ctx : ValidationContext N P) (r : Rec N P) → never_ends ctx r ≡ false → (m : ℕ) → ctx.declarations ≤ m
       → chain_end ctx m r ≡ chain_end ctx ctx.declarations r
-  chain-bound ctx r h = chain-fixed ctx ctx.declarations r (ended (behind ctx (chain_end ctx ctx.declarations r)) h)
-    where
-      ended : (o : Option (Rec N P)) → is_some o ≡ false → o ≡ none
-      ended none e = refl
-      ended (some t) e = cc
+  chain-bound ctx r h = chain-fixed ctx ctx.declarations r (none-there (behind ctx (chain_end ctx ctx.declarations r)) h)
 
 module _ {P : Type 0} (rs : List (Rec (List ℕ) P)) where
   abbrev ctx : ValidationContext (List ℕ) P

@@ -5,6 +5,12 @@ use mathlib.Core.List.{List, [], ◌∷◌, ◌++◌}
 use Rattle.std.proofs.lemmas.Bool.{and_parts, or_parts}
 use Rattle.rules.specs.Words.{any_of, select, only_if, front, rest, items}
 
+-- three tests in another order
+pub or_swap : (a b c : Bool) → (a || (b || c)) ≡ (b || (a || c))
+or_swap true true c = refl
+or_swap true false c = refl
+or_swap false b c = refl
+
 module _ {A : Type 0} where
   -- there is no element
   abbrev pub is_nil : List A → Bool

@@ -8,6 +8,7 @@ use mathlib.Core.List.{List, [], ◌∷◌, map, flat_map}
 use lib.Dec.{eqb}
 use borrow.Author.Tests.{eqb-true}
 use Rattle.std.proofs.lemmas.Bool.{and_parts}
+use Rattle.rules.proofs.Lists.{or_swap}
 use Rattle.rules.specs.Words.{number_if, any_of, member, same_bytes, Item}
 use Rattle.rules.specs.Record.{Rec}
 use Rattle.rules.specs.Context.{ValidationContext}
@@ -28,11 +29,6 @@ same_bytes-tells [] (y ∷ ys) h = cc
 same_bytes-tells (x ∷ xs) [] h = cc
 same_bytes-tells (x ∷ xs) (y ∷ ys) h =
     ap₂ ◌∷◌ (eqb-true x y (and_parts (eqb x y) _ h).0) (same_bytes-tells xs ys (and_parts (eqb x y) _ h).1)
-
-or_swap : (a b c : Bool) → (a || (b || c)) ≡ (b || (a || c))
-or_swap true true c = refl
-or_swap true false c = refl
-or_swap false b c = refl
 
 module _ {A : Type 0} where
   -- two elements may be added to a test in any order

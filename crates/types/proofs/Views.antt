@@ -1,24 +1,12 @@
--- The records of a range, one at a time: the first record and those after it, or none where the range is empty.
-use Rattle.std.proofs.Common.{◌≡◌, ℕ, suc, ◌+◌, ◌-◌, ◌<◌, ◌≤◌, Bool, true, false, List, [], ◌∷◌, leb, leb-true, leb-false, refl, arith, add-one, Option, Some, None, MatchOption}
+-- The records of a range: the first record and those after it, or none where the range is empty.
+use Rattle.std.proofs.Common.{◌≡◌, ℕ, ◌+◌, Bool, true, false, List, [], ◌∷◌, leb, leb-true, leb-false, refl, Option, Some, None, MatchOption}
 use Rattle.rules.specs.declared.span.Span.{Span}
 use Rattle.rules.specs.declared.range.RecordRange.{RecordRange}
 use Rattle.rules.specs.Range.{first_of}
 use Rattle.rules.specs.Words.{first_is}
 use Rattle.rules.specs.Record.{Rec}
-use Rattle.names.specs.View.{view_at, view_from, view_of}
-
-module _ (sheet : List ℕ) (i e : ℕ) where
-  pub view-cons : i < e → view_of sheet i e ≡ view_at sheet i ∷ view_of sheet (i + 1) e
-  unfolding view_from
-  view-cons h =
-      let size : e - i ≡ suc (e - (i + 1)) = omega arith in
-      rw (size, add-one)
-
-  pub view-none : e ≤ i → view_of sheet i e ≡ []
-  unfolding view_from
-  view-none h =
-      let size : e - i ≡ 0 = omega arith in
-      rw size
+use Rattle.names.specs.View.{view_at, view_of}
+pub use Rattle.names.proofs.Views.{view-cons, view-none}
 
 -- the records of a range that has a first, and of one that has none
 module _ (sheet : List ℕ) (range : RecordRange) where
