@@ -46,8 +46,12 @@ fn buffer_lengths(total: u32) -> [usize; BUFFERS]
 pub fn same_buffers(case: &Case, list: &mut [u8; LIST]) -> usize
     ensures { result ≡ same_buffers case.now.sheet.now case.now.names.now case.now.answer case.now.violations.now }
 {
-    buffer_lengths(case.answer.total)
-        .into_iter()
-        .filter(|len| is_same(case, &mut list[..*len]))
-        .count()
+    let mut same = 0;
+    // No `filter`, whose closure would lend a part of the list that it was lent itself: the prover does not cover that yet.
+    for len in buffer_lengths(case.answer.total) {
+        if is_same(case, &mut list[..len]) {
+            same += 1;
+        }
+    }
+    same
 }

@@ -10,7 +10,7 @@ use input::Buffers;
 use recorded::{BUFFERS, Case, LIST};
 use std::io::Read;
 use std::{fs, io};
-use tally::Tally;
+use tally::{Ending, Tally};
 
 // The tally with a case more. Names the case if a buffer or an answer is not the recorded one.
 fn judged(rt: &impl Print, tally: Tally, case: &Case, list: &mut [u8; LIST]) -> io::Result<Tally> {
@@ -23,28 +23,32 @@ fn judged(rt: &impl Print, tally: Tally, case: &Case, list: &mut [u8; LIST]) -> 
     Ok(tally.with(case.answer, same, single))
 }
 
-// The tally of the next `count` cases, which are all that the file has; else it is stopped.
-fn replayed(rt: &impl Print, file: &mut impl Read, count: u32) -> io::Result<Tally> {
+// The tally of the next `count` cases, up to one that is not as it must be, and where they end.
+fn replayed(rt: &impl Print, file: &mut impl Read, count: u32) -> io::Result<(Tally, Ending)> {
     let mut buffers = Buffers::new();
     let mut list = [0u8; LIST];
     let mut tally = Tally::new();
     for _ in 0..count {
         let Ok(case) = buffers.next_case(file) else {
-            return Ok(tally.stopped());
+            return Ok((tally, Ending::Broken));
         };
         tally = judged(rt, tally, &case, &mut list)?;
     }
-    Ok(if input::is_end(file) {
-        tally
+    let ending = if input::is_end(file) {
+        Ending::Whole
     } else {
-        tally.stopped()
-    })
+        Ending::Broken
+    };
+    Ok((tally, ending))
 }
 
 // Writes what the file holds.
 fn replay(rt: &impl Print, file: &mut impl Read) -> io::Result<()> {
     match input::start(file) {
-        Ok(count) => rt.print(replayed(rt, file, count)?),
+        Ok(count) => {
+            let (tally, ending) = replayed(rt, file, count)?;
+            print!(rt; "{tally}{ending}")
+        }
         Err(_) => rt.println("no file of cases"),
     }
 }

@@ -1,14 +1,17 @@
 // What the cases replayed so far come to.
 use recorded::BUFFERS;
-use rules::AnswerValues;
+use rules::{AnswerValues, Refusal};
 use std::fmt;
+
+// How many refusals there are.
+const REFUSALS: usize = Refusal::EndlessChain as usize;
 
 #[derive(Clone, Copy)]
 pub struct Tally {
     pub cases: u64,
     pub accepted: u64,
     // How many are refused by each number, from 1 on.
-    pub refused: [u64; 9],
+    pub refused: [u64; REFUSALS],
     // How many of the accepted ones are messages with one field.
     pub single: u64,
     pub violations: u64,
@@ -18,8 +21,6 @@ pub struct Tally {
     pub same: u64,
     // How many cases have one that is not.
     pub differing: u64,
-    // Whether the file was as it must be.
-    pub whole: bool,
 }
 
 impl Tally {
@@ -28,33 +29,27 @@ impl Tally {
         Tally {
             cases: 0,
             accepted: 0,
-            refused: [0; 9],
+            refused: [0; REFUSALS],
             single: 0,
             violations: 0,
             buffers: 0,
             same: 0,
             differing: 0,
-            whole: true,
         }
     }
 
-    // The same, of a file that is not as it must be.
-    pub fn stopped(mut self) -> Self {
-        self.whole = false;
-        self
-    }
-
-    // With a case more, of which so many buffers are as recorded; `single` if its sheet is a message with one field.
+    // With a case more, of which so many buffers are as recorded; `single` if its sheet is a message with one field. It goes by the number, as `Case` holds any four.
     pub fn with(mut self, told: AnswerValues, same: usize, single: bool) -> Self {
-        let number = told.number as usize;
-        if number > self.refused.len() {
-            return self.stopped();
-        }
-        if number == 0 {
-            self.accepted = self.accepted.wrapping_add(1);
-            self.single = self.single.wrapping_add(u64::from(single));
-        } else {
-            self.refused[number - 1] = self.refused[number - 1].wrapping_add(1);
+        match (told.number as usize).checked_sub(1) {
+            None => {
+                self.accepted = self.accepted.wrapping_add(1);
+                self.single = self.single.wrapping_add(u64::from(single));
+            }
+            Some(row) => {
+                if let Some(refused) = self.refused.get_mut(row) {
+                    *refused = refused.wrapping_add(1);
+                }
+            }
         }
         self.cases = self.cases.wrapping_add(1);
         self.violations = self.violations.wrapping_add(u64::from(told.total));
@@ -78,11 +73,24 @@ impl fmt::Display for Tally {
         writeln!(f, "violations {}", t.violations)?;
         writeln!(f, "buffers compared {}", t.buffers)?;
         writeln!(f, "buffers as recorded {}", t.same)?;
-        writeln!(f, "cases differing {}", t.differing)?;
-        if t.whole {
-            writeln!(f, "the file is whole")
-        } else {
-            writeln!(f, "the file is broken after these cases")
+        writeln!(f, "cases differing {}", t.differing)
+    }
+}
+
+// Where the cases end.
+#[derive(Clone, Copy)]
+pub enum Ending {
+    // All that the file says that it has are there, and nothing else.
+    Whole,
+    Broken,
+}
+
+// The line that says so.
+impl fmt::Display for Ending {
+    fn fmt<W: fmt::Write>(&self, f: &mut fmt::Formatter<W>) -> fmt::Result {
+        match self {
+            Ending::Whole => writeln!(f, "the file is whole"),
+            Ending::Broken => writeln!(f, "the file is broken after these cases"),
         }
     }
 }

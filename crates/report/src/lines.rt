@@ -35,7 +35,8 @@ fn put_violation(text: &mut Text, violation: Violation)
     text.put(b"\n");
 }
 
-// Puts the lines of the first `n` violations of the list.
+// Puts the lines of the first `n` violations of the list. It goes by index: of `list.chunks_exact(..).take(n)` a turn knows the state of the iterator, and not how
+// many violations it has passed, so that the proof that one line more has room did not close.
 #[tactic(auto, using(crate::proofs::LineTexts::lines_none), unfolding(crate::specs::Put::put))]
 pub fn put_violations(text: &mut Text, list: &[u8], n: usize)
     requires { (text.old.len + 35 * n ≤ length text.old.buffer.now) × (12 * n ≤ length list.now) }

@@ -4,7 +4,9 @@ ghost use Rattle.rules.specs.Printed.{decimal};
 ghost use Rattle.report.specs.Put.{state_of, Adds};
 
 // The text stands at the start of the buffer, and every byte behind it is kept. No `fmt::Write`: `write!` promises its text only where it
-// returns `Ok`, and not that it does.
+// returns `Ok`, and not that it does. The length stands beside the buffer, since `report` answers how long the text is and keeps the bytes
+// behind it: of a slice that shrinks it would have to be counted back. What room a function asks for is what it puts, another number each
+// time, so that no invariant of the type says it.
 #[derive(Drop)]
 pub struct Text<'a> {
     pub buffer: &'a mut [u8],
