@@ -138,7 +138,7 @@ module _ (second : ℕ → Bool) (sheet names : List ℕ) where
       )
 
 module _ (is_in : ℕ → Bool) (quiet : (kind : ℕ) → is_in kind ≡ true → Quiet kind) (sheet names : List ℕ) (i r n : ℕ) (first : i ≤ r) (last : r ≤ n) (all : n ≡ length sheet / 32)
-    (plain : (j : ℕ) → i ≤ j → j < r → Plain is_in sheet names j) where
+    (plain : (j : ℕ) → i ≤ j → j < r → Plain is_in names (record_bytes sheet j)) where
   -- no record of a run is a newtype
   run-ended : (end : ℕ) → Ended sheet end i → Ended sheet end r
   unfolding view_at
@@ -156,7 +156,7 @@ module _ (is_in : ℕ → Bool) (quiet : (kind : ℕ) → is_in kind ≡ true �
       let end : i + (r - i) ≡ r = omega arith in
       rw end at (run second sheet names g i (r - i) (omega arith) (λ k l. one k l (plain (i + k) (omega arith) (omega arith))))
     where
-      one : (k : ℕ) → k < r - i → Plain is_in sheet names (i + k) → Grammar.to (g (suc k)) ≡ record_step_by (second (i + k)) (g k) (decode names (record_bytes sheet (i + k)))
+      one : (k : ℕ) → k < r - i → Plain is_in names (record_bytes sheet (i + k)) → Grammar.to (g (suc k)) ≡ record_step_by (second (i + k)) (g k) (decode names (record_bytes sheet (i + k)))
       one k l p =
           quiet_step names (record_bytes sheet (i + k)) (kind_in (record_bytes sheet (i + k))) (quiet _ p.kind) refl (second (i + k)) (g k) (g (suc k)) p.clean
           p.fits (steps k (kind_in (record_bytes sheet (i + k))) (sub_in (record_bytes sheet (i + k))) l p.kind)
@@ -168,7 +168,7 @@ module _ (is_in : ℕ → Bool) (quiet : (kind : ℕ) → is_in kind ≡ true �
       record { least = first; most = omega arith; same = run-same (λ k. state_of s ds) (λ k kind sub l h. steps kind sub h); ended = run-ended }
 
 -- types of one part have the part that is due one deeper each
-module _ (sheet names : List ℕ) (i r n : ℕ) (first : i ≤ r) (last : r ≤ n) (all : n ≡ length sheet / 32) (plain : (j : ℕ) → i ≤ j → j < r → Plain is_nest sheet names j) where
+module _ (sheet names : List ℕ) (i r n : ℕ) (first : i ≤ r) (last : r ≤ n) (all : n ≡ length sheet / 32) (plain : (j : ℕ) → i ≤ j → j < r → Plain is_nest names (record_bytes sheet j)) where
   ran-deeper : (depth : ℕ) (ds : List Due) → r ≤ i + (65 - depth) →
       Ran sheet names (at Body.Message Item.Typed) (due_at depth type ∷ ds) (due_at (depth + (r - i)) type ∷ ds) i r
   unfolding state_of
@@ -214,7 +214,7 @@ ran_at sheet names before after i r s body e h = subst (λ (b : Body). Ran sheet
 -- a bit name where one may come
 pub ran_bits :
     (sheet names : List ℕ) (ds : List Due) (item : Item) (i r n : ℕ) → n ≡ length sheet / 32 → item ≡ Item.BitNames →
-    i ≤ r → r ≤ n → ((j : ℕ) → i ≤ j → j < r → Plain is_bit_name sheet names j) → Ran sheet names (at Body.Message item) ds ds i r
+    i ≤ r → r ≤ n → ((j : ℕ) → i ≤ j → j < r → Plain is_bit_name names (record_bytes sheet j)) → Ran sheet names (at Body.Message item) ds ds i r
 unfolding state_of
 ran_bits sheet names ds item i r n all e first last plain =
     rw e (ran-stays is_bit_name quiet-bit-name sheet names i r n first last all plain (at Body.Message Item.BitNames) ds (bit-step ds))
@@ -222,37 +222,34 @@ ran_bits sheet names ds item i r n all e first last plain =
 -- an imported name where one may come
 pub ran_imports :
     (sheet names : List ℕ) (ds : List Due) (item : Item) (i r n : ℕ) → n ≡ length sheet / 32 → none_due ds ≡ true → item ≡ Item.Between →
-    i ≤ r → r ≤ n → ((j : ℕ) → i ≤ j → j < r → Plain is_import sheet names j) → Ran sheet names (at Body.Context item) ds ds i r
+    i ≤ r → r ≤ n → ((j : ℕ) → i ≤ j → j < r → Plain is_import names (record_bytes sheet j)) → Ran sheet names (at Body.Context item) ds ds i r
 unfolding state_of
 ran_imports sheet names [] item i r n all empty e first last plain =
     rw e (ran-stays is_import quiet-import sheet names i r n first last all plain (at Body.Context Item.Between) [] import-step)
 ran_imports sheet names (d ∷ ds) item i r n all empty e first last plain = absurd (false≢true empty)
 
 -- what the tests of a record say
-module _ (sheet names : List ℕ) (i kind third : ℕ) (k : kind ≡ get_or (record_bytes sheet i) 0 0) (t : third ≡ get_or (record_bytes sheet i) 3 0) where
-  is-clean : eqb third 0 ≡ true → clean_in (record_bytes sheet i) ≡ true
-  is-clean h = rw t at h
+pub plain_named :
+    (names b : List ℕ) (wanted end : ℕ) → end ≡ name_offset b + name_length b →
+    (eqb (get_or b 3 0) 0 && eqb (get_or b 0 0) wanted && leb end (length names)) ≡ true → Plain (λ n. eqb n wanted) names b
+plain_named names b wanted end he h =
+    let front : ((eqb (get_or b 3 0) 0 && eqb (get_or b 0 0) wanted) ≡ true) × (leb end (length names) ≡ true) =
+    and_parts (eqb (get_or b 3 0) 0 && eqb (get_or b 0 0) wanted) (leb end (length names)) h in
+    let first : (eqb (get_or b 3 0) 0 ≡ true) × (eqb (get_or b 0 0) wanted ≡ true) = and_parts (eqb (get_or b 3 0) 0) (eqb (get_or b 0 0) wanted) front.0 in
+    record {
+      kind = first.1;
+      clean = first.0;
+      fits = not-false (fits_in names b) (sym (name_fits names b end he (leb-true end (length names) front.1)));
+    }
 
-  pub plain_named :
-      (wanted end : ℕ) → end ≡ name_offset (record_bytes sheet i) + name_length (record_bytes sheet i) →
-      (eqb third 0 && eqb kind wanted && leb end (length names)) ≡ true → Plain (λ n. eqb n wanted) sheet names i
-  plain_named wanted end he h =
-      let front : ((eqb third 0 && eqb kind wanted) ≡ true) × (leb end (length names) ≡ true) = and_parts (eqb third 0 && eqb kind wanted) (leb end (length names)) h in
-      let first : (eqb third 0 ≡ true) × (eqb kind wanted ≡ true) = and_parts (eqb third 0) (eqb kind wanted) front.0 in
-      record {
-        kind = rw k at first.1;
-        clean = is-clean first.0;
-        fits = not-false (fits_in names (record_bytes sheet i)) (sym (name_fits names (record_bytes sheet i) end he (leb-true end (length names) front.1)));
-      }
-
-pub plain_nest : (sheet names : List ℕ) (i : ℕ) → (clean_in (record_bytes sheet i) && is_nest (kind_in (record_bytes sheet i))) ≡ true → Plain is_nest sheet names i
+pub plain_nest : (names b : List ℕ) → (clean_in b && is_nest (kind_in b)) ≡ true → Plain is_nest names b
 unfolding fits_in any_of
-plain_nest sheet names i h =
-    let first = and_parts (clean_in (record_bytes sheet i)) (is_nest (kind_in (record_bytes sheet i))) h in
+plain_nest names b h =
+    let first = and_parts (clean_in b) (is_nest (kind_in b)) h in
     record { kind = first.1; clean = first.0; fits = rw (unnamed first.1) }
   where
-    unnamed : is_nest (kind_in (record_bytes sheet i)) ≡ true → is_named_in (record_bytes sheet i) ≡ false
-    unnamed n = nest-cases (λ (n : ℕ). Kind.has_name n (sub_in (record_bytes sheet i)) ≡ false) (kind_in (record_bytes sheet i)) n refl refl refl refl
+    unnamed : is_nest (kind_in b) ≡ true → is_named_in b ≡ false
+    unnamed n = nest-cases (λ (n : ℕ). Kind.has_name n (sub_in b) ≡ false) (kind_in b) n refl refl refl refl
 
 -- where a search ends
 pub found_end :

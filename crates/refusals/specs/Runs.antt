@@ -2,7 +2,7 @@
 use Rattle.std.specs.Prelude.{ℕ, ◌/◌, ◌≤◌, ◌≡◌, Bool, true, List, length, drop, eqb}
 use Rattle.rules.specs.Words.{within}
 use Rattle.rules.specs.Kind
-use Rattle.rules.specs.Record.{record_size, record_bytes, kind_in, clean_in, fits_in, records}
+use Rattle.rules.specs.Record.{record_size, kind_in, clean_in, fits_in, records}
 use Rattle.refusals.specs.declared.state.Body.{Body}
 use Rattle.refusals.specs.declared.state.Item.{Item}
 use Rattle.refusals.specs.declared.state.Place.{Place}
@@ -20,11 +20,11 @@ is_bit_name kind = eqb kind Kind.BitName
 abbrev pub is_nest : ℕ → Bool
 is_nest = within Kind.Optional Kind.Set
 
--- record i's kind is one of the run, its byte 3 is 0, and its name, if it has one, fits
-pub record Plain (is_in : ℕ → Bool) (sheet names : List ℕ) (i : ℕ) : Type 0 where
-  pub kind : is_in (kind_in (record_bytes sheet i)) ≡ true
-  pub clean : clean_in (record_bytes sheet i) ≡ true
-  pub fits : fits_in names (record_bytes sheet i) ≡ true
+-- a record's kind is one of the run, its byte 3 is 0, and its name, if it has one, fits
+pub record Plain (is_in : ℕ → Bool) (names bytes : List ℕ) : Type 0 where
+  pub kind : is_in (kind_in bytes) ≡ true
+  pub clean : clean_in bytes ≡ true
+  pub fits : fits_in names bytes ≡ true
 
 abbrev pub at : Body → Item → Place
 at body item = record { body = body; item = item }

@@ -1,7 +1,7 @@
 // Runs of records that are passed without a step each: imported names and bit names, which leave the state as it is, and types of one part, each of
-// which has the part that is due one deeper.
+// which has the part that is due one deeper. A run begins at a record of the sheet or at its end, which `run_end` asks and hands on to the three below it.
 ghost use Rattle.std.specs.Prelude.{◌≡◌, ◌&&◌, true, ℕ, ◌/◌, ◌<◌, ◌≤◌, length, eqb};
-ghost use Rattle.rules.specs.Record.{record_bytes, kind_in, clean_in};
+ghost use Rattle.rules.specs.Record.{kind_in, clean_in};
 ghost use Rattle.refusals.specs.declared.state.Body.TheVariants.{Context, Message};
 ghost use Rattle.refusals.specs.declared.state.Item.TheVariants.{Typed};
 ghost use Rattle.refusals.specs.Runs.{is_nest, Plain, Ran, at};
@@ -9,24 +9,21 @@ ghost use Rattle.refusals.specs.Runs.{is_nest, Plain, Ran, at};
 use crate::bytes::{name_end, record};
 use crate::due::Due;
 use crate::state::{Body, Item, State};
+use rules::Sheet;
 use sheet::kinds;
 
-// Whether record `i` is of the kind, one that has a name, and rows 3 to 5 let it pass.
+// Whether a record is of the kind, one that has a name, and rows 3 to 5 let it pass.
 #[tactic(auto, using(crate::proofs::PlainRuns::plain_named))]
-fn is_plain_name(sheet: &[u8], names: &[u8], kind: u8, i: usize) -> bool
-    requires { i < length sheet.now / 32 }
-    ensures { result ≡ true → Plain (λ k. eqb k kind) sheet.now names.now i }
+fn is_plain_name(bytes: &[u8; Sheet::RECORD], names: &[u8], kind: u8) -> bool
+    ensures { result ≡ true → Plain (λ k. eqb k kind) names.now bytes.now }
 {
-    let bytes = record(sheet, i);
     (bytes[3] == 0) & (bytes[0] == kind) & (name_end(bytes) <= names.len())
 }
 
-// Whether record `i` is a type of one part, which is a type, and rows 3 to 5 let it pass: none of these has a name.
-fn is_plain_nest(sheet: &[u8], i: usize) -> bool
-    requires { i < length sheet.now / 32 }
-    ensures { result ≡ (clean_in (record_bytes sheet.now i) && is_nest (kind_in (record_bytes sheet.now i))) }
+// Whether a record is a type of one part, which is a type, and rows 3 to 5 let it pass: none of these has a name.
+fn is_plain_nest(bytes: &[u8; Sheet::RECORD]) -> bool
+    ensures { result ≡ (clean_in bytes.now && is_nest (kind_in bytes.now)) }
 {
-    let bytes = record(sheet, i);
     (bytes[3] == 0) & matches!(bytes[0], kinds::OPTIONAL..=kinds::SET)
 }
 
@@ -57,7 +54,7 @@ fn nests_end(sheet: &[u8], names: &[u8], due: &mut Due, i: usize) -> usize
         return i;
     }
     let limit = sheet::records(sheet).min(i + usize::from(room));
-    let end = plain_end(i, limit, |j| is_plain_nest(sheet, j));
+    let end = plain_end(i, limit, |j| is_plain_nest(record(sheet, j)));
     due.deepen((end - i) as u8); // not more than `room`
     end
 }
@@ -71,7 +68,7 @@ fn message_end(sheet: &[u8], names: &[u8], due: &mut Due, item: Item, i: usize) 
     match item {
         Item::Typed => nests_end(sheet, names, due, i),
         Item::BitNames => plain_end(i, sheet::records(sheet), |j| {
-            is_plain_name(sheet, names, kinds::BIT_NAME, j)
+            is_plain_name(record(sheet, j), names, kinds::BIT_NAME)
         }),
         _ => i,
     }
@@ -85,7 +82,7 @@ fn context_end(sheet: &[u8], names: &[u8], due: &Due, item: Item, i: usize) -> u
 {
     match item {
         Item::Between if due.is_empty() => plain_end(i, sheet::records(sheet), |j| {
-            is_plain_name(sheet, names, kinds::IMPORTED_NAME, j)
+            is_plain_name(record(sheet, j), names, kinds::IMPORTED_NAME)
         }),
         _ => i,
     }
