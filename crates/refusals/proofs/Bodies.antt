@@ -15,7 +15,7 @@ use Rattle.rules.specs.Grammar.{Due, TypeState, FieldListState, lifted, none_due
 use Rattle.rules.proofs.Taken.{within-true}
 use Rattle.refusals.specs.declared.state.Body.{Body}
 use Rattle.refusals.specs.declared.state.Item.{Item}
-use Rattle.refusals.specs.declared.state.Place.{Place}
+use Rattle.refusals.specs.declared.state.State.{State}
 use Rattle.refusals.specs.Due.{bare}
 use Rattle.refusals.specs.States.{is_bits, type_item, type_in, type_with, in_body, in_fields, field_list_of, state_of, GoesOn}
 use Rattle.refusals.proofs.Items.{lifted_twice, part, typed_as, field_typed}
@@ -34,7 +34,7 @@ type_in_newtype (Grammar.to t) = rw (bits-item t.bits) refl
 type_in_newtype (Grammar.fault n) = refl
 
 -- a newtype's inner type, of the context or of the body
-module _ (s : Place) (ds : List Due) (kind : ℕ) (bits : Bool) (hb : bits ≡ is_bits s.item) where
+module _ (s : State) (ds : List Due) (kind : ℕ) (bits : Bool) (hb : bits ≡ is_bits s.item) where
   abbrev inner : Grammar.Step Grammar.State
   inner = lifted (type_in s.body) (type_step (type_with (is_bits s.item) ds) (bare kind 0))
 
@@ -65,7 +65,7 @@ module _ (s : Place) (ds : List Due) (kind : ℕ) (bits : Bool) (hb : bits ≡ i
       go Item.Conditioned h e = absurd (false≢true h)
 
 -- an item of an enum past its backing, or of flags
-pub items_step : (s : Place) (ds : List Due) (kind sub : ℕ) (x : Grammar.Step Grammar.State) → (s.body ≡ Body.Backed) ⊎ (s.body ≡ Body.Flags)
+pub items_step : (s : State) (ds : List Due) (kind sub : ℕ) (x : Grammar.Step Grammar.State) → (s.body ≡ Body.Backed) ⊎ (s.body ≡ Body.Flags)
     → x ≡ guarded (within 14 15 kind) (Grammar.to (state_of s ds)) → x ≡ step (state_of s ds) (bare kind sub)
 unfolding state_of step enum_step
 items_step s ds kind sub x (inl e) h = h ∙ rw e (by (within 14 15 kind))
@@ -109,7 +109,7 @@ module _ (kind sub : ℕ) where
   list-body Body.Variant item ds t = refl
   list-body Body.Newtype item ds t = absurd (false≢true t)
 
-  module _ (s : Place) (ds : List Due) (t : in_fields s.body kind ≡ true) where
+  module _ (s : State) (ds : List Due) (t : in_fields s.body kind ≡ true) where
     pub list_taken : (item : Item) (after : List Due) → Grammar.to (field_list_of item after) ≡ field_list_step (field_list_of s.item ds) (bare kind 0)
         → Grammar.to (state_of (record { body = s.body; item = item }) after) ≡ step (state_of s ds) (bare kind sub)
     unfolding state_of
@@ -133,7 +133,7 @@ typed-list (d ∷ ds) kind s t =
     and-false true = refl
     and-false false = refl
 
-module _ (s : Place) (ds : List Due) (kind sub : ℕ) (g : GoesOn s ds kind) where
+module _ (s : State) (ds : List Due) (kind sub : ℕ) (g : GoesOn s ds kind) where
   type-list : field_list_step (field_list_of s.item ds) (bare kind 0) ≡ lifted (λ t. field (typed t)) (type_step (type_with false ds) (bare kind 0))
   type-list = ap (λ (i : Item). field_list_step (field_list_of i ds) (bare kind 0)) g.typed ∙ typed-list ds kind g.some g.type
 

@@ -20,10 +20,10 @@ use Rattle.rules.specs.declared.answer.Refusal.{Refusal}
 use Rattle.rules.specs.declared.answer.Refused.{Refused}
 use Rattle.rules.proofs.Records.{records-drop, records-end}
 use Rattle.names.specs.View.{entry_of, declaration_part, view_at}
-use Rattle.refusals.specs.declared.state.Place.{Place}
+use Rattle.refusals.specs.declared.state.State.{State}
 use Rattle.refusals.specs.Answers.{own_of, told_at}
 use Rattle.refusals.specs.Due.{bare}
-use Rattle.refusals.specs.States.{start_place, state_of}
+use Rattle.refusals.specs.States.{start_state, state_of}
 use Rattle.refusals.specs.Pass.{is_second, or_second, record_step_by, first_fault_by, Ended}
 use Rattle.refusals.proofs.OwnFaults.{sub_at}
 use Rattle.refusals.proofs.KindOnly.{step-kind, step-sub}
@@ -108,7 +108,7 @@ module _ (second : ℕ → Bool) (sheet names : List ℕ) where
     pass_early b n h le hn e t = let same : n ≡ i = omega arith in rw same (ap end (sym t) ∙ ended b h e)
 
 -- before the first record
-pub pass_starts : (second : ℕ → Bool) (sheet names : List ℕ) (s : Place) (ds : List Due) → s ≡ start_place → ds ≡ []
+pub pass_starts : (second : ℕ → Bool) (sheet names : List ℕ) (s : State) (ds : List Due) → s ≡ start_state → ds ≡ []
     → first_fault_by second (state_of s ds) 0 (drop 0 (records sheet names)) ≡ first_fault_by second Grammar.start 0 (records sheet names)
 unfolding state_of
 pass_starts second sheet names s ds e d = rw (e, d)

@@ -25,7 +25,7 @@ use Rattle.rules.specs.Refusals.{own_fault}
 use Rattle.rules.proofs.Taken.{within-true}
 use Rattle.refusals.specs.declared.state.Body.{Body}
 use Rattle.refusals.specs.declared.state.Item.{Item}
-use Rattle.refusals.specs.declared.state.Place.{Place}
+use Rattle.refusals.specs.declared.state.State.{State}
 use Rattle.refusals.specs.Due.{bare, room, deepened}
 use Rattle.refusals.specs.States.{type_with, in_body, state_of}
 use Rattle.refusals.specs.Pass.{or_second, record_step_by, first_fault_by, Ended}
@@ -162,7 +162,7 @@ module _ (is_in : ℕ → Bool) (quiet : (kind : ℕ) → is_in kind ≡ true �
           p.fits (steps k (kind_in (record_bytes sheet (i + k))) (sub_in (record_bytes sheet (i + k))) l p.kind)
 
   ran-stays :
-      (s : Place) (ds : List Due) → ((kind sub : ℕ) → is_in kind ≡ true → step (state_of s ds) (bare kind sub) ≡ Grammar.to (state_of s ds)) →
+      (s : State) (ds : List Due) → ((kind sub : ℕ) → is_in kind ≡ true → step (state_of s ds) (bare kind sub) ≡ Grammar.to (state_of s ds)) →
       Ran sheet names s ds ds i r
   ran-stays s ds steps =
       record { least = first; most = omega arith; same = run-same (λ k. state_of s ds) (λ k kind sub l h. steps kind sub h); ended = run-ended }
@@ -203,11 +203,11 @@ module _ (sheet names : List ℕ) (i r n : ℕ) (first : i ≤ r) (last : r ≤ 
   ran_nests (d ∷ ds) after some few e = rw e (ran-first d.part d.depth ds some few)
 
 -- no record is passed
-pub ran_none : (sheet names : List ℕ) (s : Place) (ds : List Due) (i : ℕ) → i ≤ length sheet / 32 → Ran sheet names s ds ds i i
+pub ran_none : (sheet names : List ℕ) (s : State) (ds : List Due) (i : ℕ) → i ≤ length sheet / 32 → Ran sheet names s ds ds i i
 ran_none sheet names s ds i l = record { least = omega arith; most = omega arith; same = λ second. refl; ended = λ end h. h }
 
 pub ran_at :
-    (sheet names : List ℕ) (before after : List Due) (i r : ℕ) (s : Place) (body : Body) → s.body ≡ body → Ran sheet names (at body s.item) before after i r →
+    (sheet names : List ℕ) (before after : List Due) (i r : ℕ) (s : State) (body : Body) → s.body ≡ body → Ran sheet names (at body s.item) before after i r →
     Ran sheet names s before after i r
 ran_at sheet names before after i r s body e h = subst (λ (b : Body). Ran sheet names (at b s.item) before after i r) (sym e) h
 

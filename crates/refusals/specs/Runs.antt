@@ -5,7 +5,7 @@ use Rattle.rules.specs.Kind
 use Rattle.rules.specs.Record.{record_size, kind_in, clean_in, fits_in, records}
 use Rattle.refusals.specs.declared.state.Body.{Body}
 use Rattle.refusals.specs.declared.state.Item.{Item}
-use Rattle.refusals.specs.declared.state.Place.{Place}
+use Rattle.refusals.specs.declared.state.State.{State}
 use Rattle.rules.specs.Grammar.{Due}
 use Rattle.refusals.specs.States.{state_of}
 use Rattle.refusals.specs.Pass.{first_fault_by, Ended}
@@ -26,12 +26,12 @@ pub record Plain (is_in : ℕ → Bool) (names bytes : List ℕ) : Type 0 where
   pub clean : clean_in bytes ≡ true
   pub fits : fits_in names bytes ≡ true
 
-abbrev pub at : Body → Item → Place
+abbrev pub at : Body → Item → State
 at body item = record { body = body; item = item }
 
 -- What is to find from record r on, with the parts that are due after, is what was to find from record i on, with those that were due before. No record
 -- between is a newtype.
-pub record Ran (sheet names : List ℕ) (s : Place) (before after : List Due) (i r : ℕ) : Type 0 where
+pub record Ran (sheet names : List ℕ) (s : State) (before after : List Due) (i r : ℕ) : Type 0 where
   pub least : i ≤ r
   pub most : r ≤ length sheet / record_size
   pub same :

@@ -8,7 +8,7 @@ use Rattle.rules.specs.Grammar.{Due, due_at, none_due, TypeState, FieldListState
 use Rattle.rules.specs.Answer.{number_of}
 use Rattle.refusals.specs.declared.state.Body.{Body}
 use Rattle.refusals.specs.declared.state.Item.{Item}
-use Rattle.refusals.specs.declared.state.Place.{Place}
+use Rattle.refusals.specs.declared.state.State.{State}
 use Rattle.rules.specs.declared.answer.Refusal.{Refusal}
 
 -- in a type, a bit name may come next
@@ -70,13 +70,13 @@ in_fields Body.Variant kind = not (within Kind.Variant Kind.Tombstone kind)
 in_fields Body.Newtype kind = false
 
 -- the type of a message's field goes on with a type
-pub record GoesOn (s : Place) (ds : List Due) (kind : ℕ) : Type 0 where
+pub record GoesOn (s : State) (ds : List Due) (kind : ℕ) : Type 0 where
   pub message : s.body ≡ Body.Message
   pub typed : s.item ≡ Item.Typed
   pub some : none_due ds ≡ false
   pub type : Kind.is_type kind ≡ true
 
-unfoldable pub state_of : Place → List Due → Grammar.State
+unfoldable pub state_of : State → List Due → Grammar.State
 state_of s ds = in_body s.body s.item ds
 
 -- a step in a type, in a field list, and of the machine
@@ -88,10 +88,10 @@ abbrev pub item_step_of : Result Item Refusal → List Due → Grammar.Step Fiel
 item_step_of (Ok item) ds = Grammar.to (field_list_of item ds)
 item_step_of (Err why) ds = Grammar.fault (number_of why)
 
-abbrev pub step_of : Result (Unit {0}) Refusal → Place → List Due → Grammar.Step Grammar.State
+abbrev pub step_of : Result (Unit {0}) Refusal → State → List Due → Grammar.Step Grammar.State
 step_of (Ok taken) s ds = Grammar.to (state_of s ds)
 step_of (Err why) s ds = Grammar.fault (number_of why)
 
 -- before the first record
-abbrev pub start_place : Place
-start_place = record { body = Body.Context; item = Item.Between }
+abbrev pub start_state : State
+start_state = record { body = Body.Context; item = Item.Between }

@@ -10,6 +10,7 @@ ghost use Rattle.refusals.specs.States.{state_of, step_of};
 ghost use Rattle.refusals.specs.Pass.{is_second, or_second, record_step_by, first_fault_by, Ended, passed_of, EndSound};
 
 use crate::bytes::{is_newtype, record};
+use crate::due::Due;
 use crate::order::{refused_at, told_at};
 use crate::own::own_fault;
 use crate::runs::run_end;
@@ -32,14 +33,15 @@ fn is_second(table: &NameTable, i: usize) -> bool
 fn grammar_step(
     bytes: &[u8; Sheet::RECORD],
     table: &NameTable,
+    due: &mut Due,
     state: &mut State,
     i: usize,
 ) -> Result<(), Refusal>
     requires { i < 1024 }
-    ensures { step_of result state.new.place state.new.due ≡ or_second (eqb (kind_in bytes.now) 1 && is_second table.now i) (Grammar.step (state_of state.old.place state.old.due) (bare (kind_in bytes.now) (sub_in bytes.now))) }
+    ensures { step_of result state.new due.new ≡ or_second (eqb (kind_in bytes.now) 1 && is_second table.now i) (Grammar.step (state_of state.old due.old) (bare (kind_in bytes.now) (sub_in bytes.now))) }
 {
     let kind = bytes[0];
-    state.step(kind, bytes[1])?;
+    state.step(due, kind, bytes[1])?;
     if (kind == kinds::DECLARATION) && is_second(table, i) {
         return Err(Refusal::SecondDeclaration); // row 8
     }
@@ -52,15 +54,16 @@ fn record_step(
     sheet: &[u8],
     names: &[u8],
     table: &NameTable,
+    due: &mut Due,
     state: &mut State,
     i: usize,
 ) -> Result<(), Refusal>
     requires { (i < 1024) × (i < length sheet.now / 32) }
-    ensures { step_of result state.new.place state.new.due ≡ record_step_by (is_second table.now i) (state_of state.old.place state.old.due) (decode names.now (record_bytes sheet.now i)) }
+    ensures { step_of result state.new due.new ≡ record_step_by (is_second table.now i) (state_of state.old due.old) (decode names.now (record_bytes sheet.now i)) }
 {
     let bytes = record(sheet, i);
     own_fault(bytes, names)?;
-    grammar_step(bytes, table, state, i)
+    grammar_step(bytes, table, due, state, i)
 }
 
 // Where the newtypes end that come before record `i` or are record `i`.
@@ -83,18 +86,19 @@ pub fn first_fault(sheet: &[u8], names: &[u8], table: &NameTable) -> Result<usiz
     requires { length sheet.now ≤ 32768 }
     ensures { (passed_of result ≡ first_fault_by (is_second table.now) Grammar.start 0 (records sheet.now names.now)) × EndSound result sheet.now }
 {
+    let mut due = Due::new();
     let n = sheet::records(sheet);
     let mut state = State::start();
     let mut i = 0;
     let mut end = 0;
     while i < n {
-        let step = record_step(sheet, names, table, &mut state, i);
+        let step = record_step(sheet, names, table, &mut due, &mut state, i);
         told_at(step, i)?;
         end = newtypes_end(sheet, end, i);
         // A run is as long as its records make it, so that no `for` can step here.
-        i = run_end(sheet, names, &mut state, i + 1);
+        i = run_end(sheet, names, &mut due, state, i + 1);
     }
-    if state.may_end() {
+    if state.may_end(&due) {
         return Ok(end);
     }
     Err(refused_at(Refusal::OutOfOrder, n)) // row 6

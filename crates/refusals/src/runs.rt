@@ -90,14 +90,13 @@ fn context_end(sheet: &[u8], names: &[u8], due: &Due, item: Item, i: usize) -> u
 
 // Passes the records from record `i` on that no step is needed for.
 #[tactic(auto, using(crate::proofs::PlainRuns::ran_none, crate::proofs::PlainRuns::ran_at))]
-pub fn run_end(sheet: &[u8], names: &[u8], state: &mut State, i: usize) -> usize
+pub fn run_end(sheet: &[u8], names: &[u8], due: &mut Due, s: State, i: usize) -> usize
     requires { i ≤ length sheet.now / 32 }
-    ensures place { state.new.place ≡ state.old.place }
-    ensures ran { Ran sheet.now names.now state.old.place state.old.due state.new.due i result }
+    ensures { Ran sheet.now names.now s due.old due.new i result }
 {
-    match state.place.body {
-        Body::Context => context_end(sheet, names, &state.due, state.place.item, i),
-        Body::Message => message_end(sheet, names, &mut state.due, state.place.item, i),
+    match s.body {
+        Body::Context => context_end(sheet, names, due, s.item, i),
+        Body::Message => message_end(sheet, names, due, s.item, i),
         _ => i,
     }
 }

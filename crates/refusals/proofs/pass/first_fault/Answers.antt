@@ -5,7 +5,7 @@ use Rattle.refusals.proofs.Passes.{pass_fault, pass_again, pass_done, pass_early
 use Rattle.refusals.proofs.pass.first_fault.Goals as goal
 
 pub loop-i-init : goal.loop-i-init
-loop-i-init c = (omega arith, pass_starts _ _ _ _ _ c.start-state.ensures.place c.start-state.ensures.due, none_ended _)
+loop-i-init c = (omega arith, pass_starts _ _ _ _ _ c.start-state.ensures c.new-due.ensures, none_ended _)
 
 pub returns-in_err-told_at : goal.returns-in_err-told_at
 returns-in_err-told_at c =
@@ -16,10 +16,10 @@ returns-in_err-told_at c =
 
 pub loop-i-preserved : goal.loop-i-preserved
 loop-i-preserved c =
-    let ran = c.run_end-i.ensures.ran in
+    let ran = c.run_end-i.ensures in
     let step = told _ _ _ _ c.told_at.ensures c.in_ok-told_at.was in (
       omega (arith, ran.most, c.records-n.ensures),
-      rw c.run_end-i.ensures.place (ran.same _) ∙ pass_again _ _ _ _ _ _ c.loop-i.invariant.1 _ (count_below _ _ _ c.records-n.ensures c.loop-i-test.true) (rw step at c.record_step-step.ensures),
+      ran.same _ ∙ pass_again _ _ _ _ _ _ c.loop-i.invariant.1 _ (count_below _ _ _ c.records-n.ensures c.loop-i-test.true) (rw step at c.record_step-step.ensures),
       ran.ended _ c.newtypes_end-end.ensures,
     )
 

@@ -9,7 +9,7 @@ use Rattle.refusals.proofs.pass.first_fault.Given as goal
 abbrev pub invariant-loop-i : goal.invariant-loop-i
 invariant-loop-i l =
     (l.i ≤ l.n)
-    × (first_fault_by (is_second l.table) (state_of l.state.place l.state.due) l.i (drop l.i (records l.sheet l.names)) ≡ first_fault_by (is_second l.table) Grammar.start 0 (records l.sheet l.names))
+    × (first_fault_by (is_second l.table) (state_of l.state l.due) l.i (drop l.i (records l.sheet l.names)) ≡ first_fault_by (is_second l.table) Grammar.start 0 (records l.sheet l.names))
     × Ended l.sheet l.end l.i
 
 abbrev pub decreases-loop-i : goal.decreases-loop-i
