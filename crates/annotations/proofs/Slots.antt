@@ -4,18 +4,14 @@ use native.Mathlib.Decide.{ℕ_discrete}
 use mathlib.Core.Bool.{or-true}
 use lib.ListN.{length-replicate}
 use Rattle.std.proofs.lemmas.Bool.{and_parts}
+use Rattle.names.proofs.Columns.{zeros-at}
 use Rattle.annotations.proofs.Asked.{SomeFrom}
 use Rattle.annotations.specs.Slots.{has_key, Behind, Slotted, Ready}
 
 -- no slot has a record yet
-zero-at : (m k : ℕ) → ◌≡◌ {A = ℕ} (get_or (replicate m 0) k 0) 0
-zero-at zero k = refl
-zero-at (suc m) zero = refl
-zero-at (suc m) (suc k) = zero-at m k
-
 pub ready-new : (a : ℕ) → Ready (replicate 1024 0) a
 unfolding Ready
-ready-new a = (length-replicate {A = ℕ} 1024 0, λ b. omega (arith, zero-at 1024 b))
+ready-new a = (length-replicate {A = ℕ} 1024 0, λ b. omega (arith, zeros-at 1024 b))
 
 module _ (on : ℕ → Bool) (key : ℕ → ℕ) (a : ℕ) where
   -- nothing is on from a up to a
