@@ -51,7 +51,8 @@ pub struct AnswerValues {
     pub errors: u32,
 }
 
-// The four numbers of an answer.
+// The four numbers of an answer. No way back stands beside it: four numbers of a file, or of a caller of `report`, may be no answer's, and both crates promise
+// something of any four.
 impl From<Answer> for AnswerValues {
     fn from(answer: Answer) -> AnswerValues
         ensures { result ≡ values_of answer }

@@ -1,4 +1,4 @@
-// A sheet and its names text, by their lengths.
+// A sheet and its names text, by their lengths. Its methods need the length of the sheet alone; `names_len` stands, as the type was public with both.
 ghost use Rattle.std.specs.Prelude.{◌≡◌, ◌/◌};
 
 #[derive(Clone, Copy)]
