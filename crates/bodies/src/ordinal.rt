@@ -1,6 +1,6 @@
 // What is wrong with an ordinal.
 ghost use Rattle.std.specs.Prelude.{◌≡◌, not, ◌&&◌, leb};
-ghost use Rattle.diagnostic.specs.Violations.{state_of};
+ghost use Rattle.diagnostic.specs.Violations.{Changes};
 ghost use Rattle.bodies.specs.Ordinal.{push_ordinal};
 
 use crate::seen::MetItem;
@@ -53,8 +53,7 @@ impl OrdinalRules {
     // `Adds` names.
     #[tactic(auto, unfolding(crate::specs::Ordinal::push_ordinal))]
     pub fn tell(self, violations: &mut Violations, item: MetItem)
-        ensures reference { violations.new.list.ghost_name ≡ violations.old.list.ghost_name }
-        ensures state { state_of violations.new ≡ push_ordinal self item.entry.sheet.now item.entry.index item.entry.meeting.tombstoned item.entry.meeting.met (state_of violations.old) }
+        ensures { Changes violations.old violations.new (push_ordinal self item.entry.sheet.now item.entry.index item.entry.meeting.tombstoned item.entry.meeting.met) }
     {
         let span = sheet::ordinal_span(item.sheet, item.index);
         let over = self.greatest < item.ordinal;
@@ -67,8 +66,7 @@ impl OrdinalRules {
     // Adds what is wrong with the ordinal of the item.
     #[tactic(auto, unfolding(crate::specs::Ordinal::push_ordinal, diagnostic::specs::Push::push_if))]
     pub fn check(self, violations: &mut Violations, item: MetItem)
-        ensures reference { violations.new.list.ghost_name ≡ violations.old.list.ghost_name }
-        ensures state { state_of violations.new ≡ push_ordinal self item.entry.sheet.now item.entry.index item.entry.meeting.tombstoned item.entry.meeting.met (state_of violations.old) }
+        ensures { Changes violations.old violations.new (push_ordinal self item.entry.sheet.now item.entry.index item.entry.meeting.tombstoned item.entry.meeting.met) }
     {
         if !self.allow(item) {
             self.tell(violations, item);
