@@ -2,10 +2,11 @@
 use Prim.Native.Nat.{ℕ, zero, suc, ◌+◌, ◌-◌, ◌≤◌, ◌<◌}
 use native.Mathlib.Omega.{arith}
 use mathlib.Core.Path.{◌≡◌, refl, sym, ap, ◌∙◌}
-use mathlib.Core.Bool.{Bool, true, false, not, ◌||◌, true≢false}
+use mathlib.Core.Bool.{Bool, true, false, not, ◌||◌}
 use mathlib.Core.List.{List, [], ◌++◌, append-nil}
 use lib.Dec.{eqb, ltb}
 use borrow.Author.Tests.{eqb-true, ne_eqb, not-true, not-false, ltb-false}
+use Rattle.std.proofs.lemmas.Bool.{or_parts}
 use Rattle.rules.specs.Words.{any_of, select}
 use Rattle.rules.specs.Kind
 use Rattle.rules.specs.Record.{is, kind_in, record_bytes}
@@ -29,13 +30,9 @@ use Rattle.bodies.proofs.WholeRecords.{field-has, has-ordinal}
 use Rattle.bodies.proofs.FieldTurns.{fields_left, field-inner, field-turn}
 use Rattle.bodies.proofs.FieldList.{fields-start}
 
-or-none : (x y : Bool) → (x || y) ≡ false → (x ≡ false) × (y ≡ false)
-or-none true y h = absurd (true≢false h)
-or-none false y h = (refl, h)
-
 -- of those, the first is a field
 single-kind : (k end e : ℕ) → (not (eqb k 11) || ltb end e) ≡ false → k ≡ 11
-single-kind k end e alone = eqb-true k 11 (not-false (eqb k 11) (or-none (not (eqb k 11)) (ltb end e) alone).0)
+single-kind k end e alone = eqb-true k 11 (not-false (eqb k 11) (or_parts (not (eqb k 11)) (ltb end e) alone).0)
 
 pub single-has : (k end e kind : ℕ) → k ≡ kind → (not (eqb k 11) || ltb end e) ≡ false → Kind.has_ordinal kind ≡ true
 single-has k end e kind read alone = has-ordinal k 11 kind read (single-kind k end e alone) field-has
@@ -89,7 +86,7 @@ module _ (body : WholeRecords) where
       Adds old now (field_list_violations (context_in body.context) (view_of sheet a e))
   unfolding any_of earlier
   fields-single old now k end last h hk alone ends ended adds =
-      let none_other = or-none (not (eqb k 11)) (ltb end e) alone in
+      let none_other = or_parts (not (eqb k 11)) (ltb end e) alone in
       let test : is Kind.Field (view_at sheet a) ≡ true = kind-is sheet a k 11 hk (single-kind k end e alone) in
       let field : (view_at sheet a).kind ≡ 11 = eqb-true (view_at sheet a).kind 11 test in
       let same : end ≡ e = omega (arith, ends.1, ltb-false end e none_other.1) in
