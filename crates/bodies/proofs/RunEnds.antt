@@ -53,11 +53,6 @@ pub ends-out : (p : Rec ℕ Span → Bool) (sheet : List ℕ) (a e r : ℕ) → 
 unfolding EndsAt
 ends-out p sheet a e r ends h = ap (first_is p) (sym (view-cons sheet r e h) ∙ ends.1) ∙ rest-first p (view_of sheet a e)
 
--- no record fails a test yet
-pub all_none : (p : Rec ℕ Span → Bool) (sheet : List ℕ) (a : ℕ) → AllIn p sheet a a
-unfolding AllIn
-all_none p sheet a = λ j l lt. absurd (omega arith)
-
 module _ (p : Rec ℕ Span → Bool) (sheet : List ℕ) (a : ℕ) where
   -- records that pass by fours
   abbrev Four : ℕ → Type 0
