@@ -1,23 +1,25 @@
--- The bytes of record i, as code cuts them out of a sheet: the first 32 from 32 * i on, or all that are left. A start past every length leaves none.
-use Rattle.std.proofs.Common.{◌≡◌, refl, ℕ, ◌-◌, ◌*◌, ◌/◌, ◌^◌, ◌≤◌, ◌<◌, min, Bool, true, false, List, [], length, arith}
-use Rattle.std.proofs.lemmas.List.{take_min}
-use lib.Dec.{leb}
-use lib.ListN.{take, drop, drop_of_length-le}
-use borrow.Author.Tests.{leb-true, leb-false}
+-- The bytes of record i, as code cuts them out of a sheet: a whole record has 32, after the last whole one fewer are left, and beyond that
+-- there are none.
+use Prim.Native.Nat.{ℕ, ◌+◌, ◌-◌, ◌*◌, ◌/◌, ◌≤◌}
+use mathlib.Core.Path.{◌≡◌}
+use mathlib.Core.List.{List, []}
+use native.Mathlib.Omega.{arith}
+use lib.ListN.{length, take, drop, length-drop, drop_of_length-le}
+use lib.Seq.{take_all}
 use Rattle.rules.specs.Record.{record_bytes}
 
 module _ (sheet : List ℕ) (i : ℕ) where
+  pub whole_record : take (i * 32 + 32 - i * 32) (drop (i * 32) sheet) ≡ record_bytes sheet i
+  whole_record =
+      let size : i * 32 + 32 - i * 32 ≡ 32 = omega arith in
+      let start : i * 32 ≡ 32 * i = omega arith in
+      rw (size, start)
+
+  pub last_part : i ≡ length sheet / 32 → take (length sheet - i * 32) (drop (i * 32) sheet) ≡ record_bytes sheet i
+  last_part h =
+      let start : i * 32 ≡ 32 * i = omega arith in
+      let rest : length (drop (32 * i) sheet) ≤ 32 = simp length-drop (omega arith) in
+      rw (start, take_all 32 (drop (32 * i) sheet) rest) (take_all (length sheet - 32 * i) (drop (32 * i) sheet) (simp length-drop (omega arith)))
+
   pub no_part : length sheet / 32 ≤ i → (i ≡ length sheet / 32 → ⊥) → [] ≡ record_bytes sheet i
   no_part h k = rw (drop_of_length-le sheet {i = 32 * i} (omega arith))
-
-  from_start : (at : ℕ) → at ≡ min (i * 32) (2 ^ 64 - 1) → length sheet < 2 ^ 64 → (near : Bool) → leb (i * 32) (2 ^ 64 - 1) ≡ near → take 32 (drop at sheet) ≡ record_bytes sheet i
-  from_start at h short true e =
-      let within = leb-true (i * 32) (2 ^ 64 - 1) e in
-      let start : at ≡ 32 * i = omega arith in
-      rw start
-  from_start at h short false e =
-      let beyond = leb-false (i * 32) (2 ^ 64 - 1) e in
-      rw (drop_of_length-le sheet {i = at} (omega arith)) (no_part (omega arith) (λ same. omega arith))
-
-  pub cut : (at n : ℕ) (part : List ℕ) → at ≡ min (i * 32) (2 ^ 64 - 1) → length sheet < 2 ^ 64 → part ≡ drop at sheet → n ≡ min 32 (length part) → take n part ≡ record_bytes sheet i
-  cut at n part h short p size = rw (size, take_min 32 part, p) (from_start at h short (leb (i * 32) (2 ^ 64 - 1)) refl)

@@ -11,13 +11,23 @@ fn from(b: &[u8], at: usize) -> &[u8]
     b.get(at..).unwrap_or(&[])
 }
 
-// The bytes of record `i`; fewer, or none, past the end.
-#[tactic(auto, using(crate::proofs::Part::cut))]
+// The bytes of record `i`; fewer, or none, past the end. By cases, so that a whole record is known to have 32 bytes: by a saturating start and a slice, `exercise`
+// takes FIGURE of the ready tree, and the aim is 0.5.
+#[tactic(auto, using(crate::proofs::Part::whole_record, crate::proofs::Part::last_part, crate::proofs::Part::no_part))]
 pub fn record(sheet: &[u8], i: usize) -> &[u8]
     ensures { result.now ≡ record_bytes sheet.now i }
 {
-    let rest = from(sheet, i.saturating_mul(Sheet::RECORD));
-    &rest[..Sheet::RECORD.min(rest.len())]
+    let whole = sheet.len() / Sheet::RECORD;
+    if i < whole {
+        let at = i * Sheet::RECORD;
+        let end = at + Sheet::RECORD;
+        return &sheet[at..end];
+    }
+    if i == whole {
+        let at = i * Sheet::RECORD;
+        return &sheet[at..];
+    }
+    &sheet[..0]
 }
 
 // The byte at `at`.
