@@ -50,7 +50,8 @@ pub fn run_end<F: Fn(u8) -> bool>(records: WholeRecords, is_in: F) -> usize
     ensures inside { (records.entry.range.start ≤ result) × (result ≤ records.entry.range.end) }
     ensures run { (p : ℕ → Bool) → ((kind : ℕ) (r : Bool) → F.post is_in kind r → r ≡ p kind) → RunTo (λ t. p t.kind) records.entry.context.sheet.now records.entry.range.start records.entry.range.end result }
 {
-    // by `find` `exercise` takes 1.3 in 100 more (33,673 instructions and 33,249), and with 0.46 to 0.51 of the Rust's ready tree it is at its aim of 0.5
+    // by `find` `exercise` takes 1.3 in 100 more (33,673 instructions and 33,249), and at 0.46 to 0.51 of the Rust's ready tree with an aim of 0.5 a run of
+    // 0.494 or more, which meets it, then misses it
     for i in records.range.start..records.range.end {
         if !is_in(records.kind(i)) {
             return i;

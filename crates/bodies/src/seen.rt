@@ -50,7 +50,7 @@ const MARKS: usize = 1021;
 // it is not among them. An ordinal over 32 bits, which row 5 does not let through, is not kept: whether it was met is asked of the records. The numbers are an
 // array and their count by value, as document 01 has them: nothing here takes memory from a heap, and the library for C stands on no crate of the kit but
 // `std`, which has no vector of a fixed room. The list is in it, and stays the same, since each method reads it: else each call, and what is known between two,
-// would name it besides.
+// would name it besides. What is known of the numbers is a clause and no invariant: it names the record that comes next, which the loop over the list counts.
 #[derive(Drop)]
 pub struct Seen<'a> {
     list: ItemList<'a>,

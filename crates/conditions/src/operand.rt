@@ -32,7 +32,8 @@ enum Operand {
 }
 
 impl Operand {
-    // The operand with that sub; none of a sub that no rule speaks of.
+    // The operand with that sub; none of a sub that no rule speaks of. An Option and no `TryFrom`: such a sub is no error, and an error type of its own would be read
+    // by no caller.
     #[tactic(auto, unfolding(crate::specs::Taken::operand_of))]
     fn with_sub(sub: u8) -> Option<Operand>
         ensures { result ≡ operand_of sub }

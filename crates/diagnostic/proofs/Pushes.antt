@@ -9,6 +9,6 @@ unfolding push_all
 push-append [] ys s = refl
 push-append (x ∷ xs) ys s = push-append xs ys (push_one x s)
 
--- two states in a row, each what a list leaves of the one before it
+-- two states in a row, each what a list leaves of the one before it; docs/PROOFS.md names it, and no proof does
 pub push-then : (xs ys : List Violation) (s t u : State) → t ≡ push_all xs s → u ≡ push_all ys t → u ≡ push_all (xs ++ ys) s
 push-then xs ys s t u e f = rw (f, e) (sym (push-append xs ys s))

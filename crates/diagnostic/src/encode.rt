@@ -4,7 +4,7 @@ ghost use Rattle.rules.specs.Buffer.{encode};
 
 use rules::Violation;
 
-// The twelve bytes of the violation.
+// The twelve bytes of the violation. A function and no `From`: that could only stand in `rules`, beside the type, away from the one list that is written so.
 #[tactic(auto, unfolding(rules::specs::Buffer::encode, rules::specs::Words::bytes))]
 pub fn encode(violation: Violation) -> [u8; Violation::SIZE]
     ensures { result ≡ encode violation }

@@ -27,7 +27,7 @@ impl<'a> ValidationContext<'a> {
         self.table.id(i)
     }
 
-    // The first declaration of the name, if there is one.
+    // The first declaration of the name, if there is one. That an index is below 65535 is handed on to where a place is made of it.
     pub fn declaration(self, i: usize) -> Option<usize>
         ensures record { result ≡ index_at (entry_of declaration_part (numbers_of self.entry) i) }
         ensures small { IfSome result (λ d. d < 65535) }

@@ -14,7 +14,7 @@ fn word(name: &[u8], at: usize) -> u64
     u64::from(u32::from_le_bytes([name[at], name[at + 1], name[at + 2], name[at + 3]]))
 }
 
-// The byte at `at`; 0 past the last. That of `sheet` is private to it, and reads a record's bytes.
+// The byte at `at`, as a number of 64 bits with its bound; 0 past the last. It is the library's `get`.
 fn byte(name: &[u8], at: usize) -> u64
     ensures { (result ≡ get_or name.now at 0) × (result < 256) }
 {

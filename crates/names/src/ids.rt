@@ -11,8 +11,9 @@ use crate::own::{Named, name_at};
 use rules::Sheet;
 
 // The records that are the first with their name, in a chain for each bucket: the place of the last of each bucket, and of the one before
-// each record. A place is 0 where there is none, as in the table: an `Option<u16>` takes four bytes, and to clear 4,096 more in each call would be an eighth
-// of the instructions of `exercise`.
+// each record. A place is 0 where there is none, as in the table and in `Chained`, whose lists hold numbers: of Options each law would have to make the number
+// first, and an `Option<u16>` takes four bytes, twice as many to clear in each call. What the chains hold is a clause and no invariant: it names the sheet, its
+// names text and how many of its records are read.
 #[derive(Drop)]
 pub struct Chains {
     heads: [u16; Sheet::MAX_RECORDS],
@@ -65,6 +66,7 @@ impl Chains {
             return id;
         }
         self.links[index] = self.heads[bucket];
+        // a sheet has fewer records than 16 bits count
         self.heads[bucket] = (index + 1) as u16;
         index
     }

@@ -15,7 +15,8 @@ fn own_bytes(sheet: &[u8], i: usize) -> &[u8]
     &sheet[at..at + Sheet::RECORD]
 }
 
-// The name of the record with these bytes, if it has one and the name fits.
+// The name of the record with these bytes, if it has one and the name fits. `sheet::name` gives no bytes both for an empty name and for none; here the two are told
+// apart.
 #[tactic(auto, using(crate::proofs::Numbers::named_by, crate::proofs::Numbers::name_by, crate::proofs::Numbers::rest_part))]
 fn own_name<'a>(own: &[u8], names: &'a [u8]) -> Option<&'a [u8]>
     ensures { MatchOption result (is_named (record_of own.now names.now 0) ≡ false) (λ name. (is_named (record_of own.now names.now 0) ≡ true) × (name.now ≡ name_in names.now (record_bytes own.now 0))) }

@@ -1,4 +1,5 @@
-// The parts of the table. The records are read once, then what is noted at the ids is spread to all records.
+// The parts of the table. The records are read once, then what is noted at the ids is spread to all records. The table is changed while sheet and names text are
+// read: a struct of the three, lent by `&mut`, would have to promise in each function that these are still the same.
 ghost use Rattle.std.specs.Prelude.{◌≡◌, ◌++◌, List, ℕ, take, replicate};
 ghost use Rattle.names.specs.Notes.{Read};
 ghost use Rattle.names.specs.Parts.{known_count, ids, declarations, imported, targets, codes, totals};

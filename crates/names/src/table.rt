@@ -11,7 +11,9 @@ use rules::Sheet;
 use std::marker::Model;
 
 // Five numbers for each record, and two for the sheet. A place is a record's index and one more; 0 is none. Any numbers are a table: it says what it is
-// asked, and is right once it is filled.
+// asked, and is right once it is filled. An import and a wildcard are numbers too, 1 where there is one: they stand in the definition's list of numbers, and
+// `entry` and `is_zero` read all parts alike; of a `bool` each law of the view would have to make a number. The parts stand side by side and not in one array of
+// structs: `is_silent` looks through two of them, and the definition's list has one after the other.
 #[derive(Drop)]
 pub struct NameTable {
     ids: [u16; Sheet::MAX_RECORDS],
@@ -147,6 +149,7 @@ impl NameTable {
         requires { (i < 1024) × (id < 1024) }
         ensures { self.new ≡ set self.old (0 + i) id }
     {
+        // a sheet has fewer records than 16 bits count
         self.ids[i] = id as u16;
     }
 
@@ -165,6 +168,7 @@ impl NameTable {
         ensures { self.new ≡ set_first self.old (1024 + id) (i + 1) }
     {
         if self.declarations[id] == 0 {
+            // a sheet has fewer records than 16 bits count
             self.declarations[id] = (i + 1) as u16;
         }
     }

@@ -15,6 +15,7 @@ pub fn target(sheet: &[u8], place: usize) -> u16
         return 0;
     }
     if sheet::is_type(sheet::kind(sheet, place)) {
+        // a sheet has fewer records than 16 bits count
         (place + 1) as u16
     } else {
         0

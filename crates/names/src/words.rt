@@ -1,4 +1,6 @@
-// The codes of names: a number for each word, and one for a name that a bit may have.
+// The codes of names: a number for each word, and one for a name that a bit may have. The table keeps codes as its other parts, as numbers, of which 0 is none: an
+// enum would be made a number where it is stored, and an enum again at each look, as `with_code` does where a rule asks for a word. `BIT` is no case of `Word`: no
+// rule asks for such a name as for a word.
 ghost use Rattle.std.specs.Prelude.{◌≡◌, MatchOption};
 ghost use Rattle.names.specs.NameTable.{word_code};
 ghost use Rattle.names.specs.WordOf.{word_of, code_of};
@@ -13,7 +15,7 @@ pub enum Word {
     Deprecated = 5,
     Doc = 6,
     Reason = 7,
-    // the name with no bytes
+    // the name with no bytes, which `is_number` asks for as for a word
     Blank = 8,
 }
 
@@ -29,7 +31,7 @@ impl From<Word> for u16 {
 }
 
 impl Word {
-    // The word with that code.
+    // The word with that code. An Option and no `TryFrom`: a number that is no word is no error, and an error type of its own would be read by no caller.
     #[tactic(auto, unfolding(crate::specs::WordOf::word_of))]
     pub fn with_code(code: u16) -> Option<Word>
         ensures { result ≡ word_of code }

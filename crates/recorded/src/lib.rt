@@ -27,7 +27,7 @@ pub fn number(b: &[u8; 4]) -> u32
     u32::from_le_bytes(*b)
 }
 
-// Whether the first two numbers of a file are those of a file of cases.
+// Whether the first two numbers of a file are those of a file of cases: the file is read by numbers of four bytes, these two as all others.
 #[tactic(auto, unfolding(crate::specs::File::is_magic, crate::specs::File::number_of))]
 pub fn is_magic(first: u32, second: u32) -> bool
     ensures { result ≡ is_magic first second }

@@ -4,6 +4,9 @@
 // inner type is passed twice at most before it leads to its end, all chains that end take together at most six calls of `behind` for each newtype,
 // and the first that never ends takes one call more than there are declarations. That is linear in the declarations, and so are the keys that are
 // judged by the table afterwards: none of them is more than two steps from its end. No function here calls itself.
+//
+// The table is lent by `&mut`, so that a context of it and the sheet is made where one is asked for. What lasts of the table each function hands to its caller: a
+// type of the table and the sheet would hold the table by `&mut`, and each function would have these clauses all the same.
 ghost use Rattle.std.specs.Prelude.{◌≡◌, ◌&&◌, ◌+◌, ◌/◌, ◌≤◌, ◌<◌, length};
 ghost use Rattle.rules.specs.Record.{is_of};
 ghost use Rattle.rules.specs.Context as Context;
@@ -34,6 +37,7 @@ fn shorten(sheet: &[u8], table: &mut NameTable, t: usize, end: usize)
         if next == end {
             return;
         }
+        // a place counts from 1, and the end is below 65535
         table.set_target(at, (end + 1) as u16); // a place counts from 1
         at = next;
     }

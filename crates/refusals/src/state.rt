@@ -29,8 +29,8 @@ pub enum Item {
     Conditioned,
 }
 
-// The parts that are due stand beside it: one struct of both was proved, and takes 1.4 in 100 more instructions on `exercise`, which takes 0.46 to 0.51 of
-// the ready tree, with an aim of 0.5, and up to 7 on other shapes (`context`).
+// The parts that are due stand beside it: one struct of both was proved, and takes 1.4 in 100 more instructions on `exercise`. At 0.46 to 0.51 of the ready
+// tree with an aim of 0.5 a run of 0.494 or more, which meets it, then misses it.
 //
 // The item counts in a body that has fields or a type, which are four of the eight; the others stand between items. A case of each body with its item
 // would have each step of a field list and of a type, which goes by the item alone, written out for each of two bodies.

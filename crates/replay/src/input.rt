@@ -65,7 +65,7 @@ fn next_answer(file: &mut impl Read) -> Result<AnswerValues, Fault> {
     }
 }
 
-// Reads the file's first 16 bytes, and answers how many cases it says that there are.
+// Reads the file's first 16 bytes, and answers how many cases it says that there are. The count has eight bytes; files of more than 32 bits tell are none.
 pub fn start(file: &mut impl Read) -> Result<u32, Fault> {
     let first = next_number(file)?;
     let second = next_number(file)?;

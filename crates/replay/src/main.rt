@@ -12,7 +12,7 @@ use std::io::Read;
 use std::{fs, io};
 use tally::{Ending, Tally};
 
-// The tally with a case more. Names the case if a buffer or an answer is not the recorded one.
+// The tally with a case more. Names the case if a buffer or an answer is not the recorded one. The list is an array, as `same_buffers` takes it.
 fn judged(rt: &impl Print, tally: Tally, case: &Case, list: &mut [u8; LIST]) -> io::Result<Tally> {
     let same = recorded::same_buffers(case, list);
     let single = recorded::is_single_field(case.sheet);

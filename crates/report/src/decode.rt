@@ -4,7 +4,7 @@ ghost use Rattle.rules.specs.Buffer.{decode_violation, violation_size};
 
 use rules::{Span, Violation};
 
-// The violation in the first twelve bytes.
+// The violation in the first twelve bytes. A function and no `From`: it reads the first bytes of a longer slice, and one of other length has no violation.
 pub fn violation(bytes: &[u8]) -> Violation
     requires { violation_size ≤ length bytes.now }
     ensures { result ≡ decode_violation bytes.now }

@@ -95,7 +95,7 @@ module _ (vs : List Violation) (old : List ℕ) where
       ap (λ (n : ℕ). decode_list n (written vs old)) (sym length_taken)
       ∙ decode-encoded (drop (violation_size * written_count) old) (every_take written_count h)
 
-  -- the buffer holds bytes as before,
+  -- the buffer holds bytes as before (docs/PORT.md names it, and no proof does),
   pub written_below : Every Encodable vs → Every (λ b. b < 256) old → Every (λ b. b < 256) (written vs old)
   unfolding written
   written_below h g =

@@ -35,7 +35,7 @@ number-first n (x ∷ l) = refl
 pub number_at-first : (at n : ℕ) (l : List ℕ) → number_at at (suc n) l ≡ get_or l at 0 + 256 * number_at (at + 1) n l
 number_at-first at n l = rw (number-first n (drop at l), drop-drop 1 at l, get_or-drop at l 0 0, add-zero)
 
--- a number within record i stands 32 * i bytes further in the sheet
+-- a number within record i stands 32 * i bytes further in the sheet; docs/PROOFS.md names it, and no proof does
 pub number-of-record : (j n i : ℕ) (sheet : List ℕ) → j + n ≤ 32 → number_at j n (record_bytes sheet i) ≡ number_at (32 * i + j) n sheet
 number-of-record j n i sheet h = rw (part-of-front j n 32 (drop (32 * i) sheet) h, drop-drop j (32 * i) sheet)
 

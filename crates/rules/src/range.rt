@@ -3,8 +3,6 @@
 ghost use Rattle.std.specs.Prelude.{◌≡◌, leb};
 ghost use Rattle.rules.specs.Range.{first_of};
 
-use std::ops::Range;
-
 // The records from `start` up to `end`; none where `end` is not behind `start`.
 #[derive(Clone, Copy, PartialEq, Eq)]
 pub struct RecordRange {
@@ -39,12 +37,5 @@ impl RecordRange {
             start,
             end: self.end,
         }
-    }
-
-    // Their indices, in order.
-    pub fn indices(self) -> Range<usize>
-        ensures { result ≡ record { start = self.start; end = self.end } }
-    {
-        self.start..self.end
     }
 }

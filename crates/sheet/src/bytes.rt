@@ -1,18 +1,11 @@
 // Numbers in bytes, little-endian. Past the end of the bytes everything reads as 0.
-ghost use Rattle.std.specs.Prelude.{◌≡◌, drop, get_or};
+ghost use Rattle.std.specs.Prelude.{◌≡◌, ◌+◌, ◌*◌, ◌≤◌, get_or};
 ghost use Rattle.rules.specs.Record.{number_at, record_bytes};
-ghost use Rattle.rules.specs.Words.{number};
 
 use rules::Sheet;
-// The bytes from `at` on; none past the end.
-fn from(b: &[u8], at: usize) -> &[u8]
-    ensures { result.now ≡ drop at b.now }
-{
-    b.get(at..).unwrap_or(&[])
-}
 
-// The bytes of record `i`; fewer, or none, past the end. By cases, so that a whole record is known to have 32 bytes: by a saturating start and a slice, `exercise`
-// takes FIGURE of the ready tree, and the aim is 0.5.
+// The bytes of record `i`; fewer, or none, past the end. By cases: by a saturating start and a slice `collisions` takes 42 in 100 more instructions, and `exercise`
+// 2 in 100, which is at its aim (0.51 to 0.54 of the Rust's ready tree in one hour on one machine, 0.46 on another; the aim is 0.5).
 #[tactic(auto, using(crate::proofs::Part::whole_record, crate::proofs::Part::last_part, crate::proofs::Part::no_part))]
 pub fn record(sheet: &[u8], i: usize) -> &[u8]
     ensures { result.now ≡ record_bytes sheet.now i }
@@ -30,43 +23,37 @@ pub fn record(sheet: &[u8], i: usize) -> &[u8]
     &sheet[..0]
 }
 
-// The byte at `at`.
+// The byte at `at`. By a test, as `word` and `long`: by `get`, `first_chunk` and `from_le_bytes`, with `matches!` in the tests of kinds, `exercise` takes 3 in 100
+// more instructions, and is at its aim.
 pub fn byte(b: &[u8], at: usize) -> u8
     ensures { result ≡ get_or b.now at 0 }
 {
-    b.get(at).copied().unwrap_or(0)
-}
-
-// The `N` bytes from `at` on; 0 for each past the end.
-#[tactic(auto, using(crate::proofs::Numbers::padded))]
-fn bytes<const N: usize>(b: &[u8], at: usize) -> [u8; N]
-    ensures { number result ≡ number_at at N b.now }
-{
-    let rest = from(b, at);
-    match rest.first_chunk() {
-        Some(all) => *all,
-        None => {
-            let mut all = [0; N];
-            all[..rest.len()].copy_from_slice(rest);
-            all
-        }
-    }
+    if at < b.len() { b[at] } else { 0 }
 }
 
 // The number in the four bytes from `at` on.
-#[tactic(auto, using(crate::proofs::Numbers::word_whole))]
 pub fn word(b: &[u8], at: usize) -> u32
+    requires { at ≤ 28 }
     ensures { result ≡ number_at at 4 b.now }
 {
-    u32::from_le_bytes(bytes(b, at))
+    if at + 4 <= b.len() {
+        u32::from_le_bytes([b[at], b[at + 1], b[at + 2], b[at + 3]])
+    } else {
+        u32::from_le_bytes([
+            byte(b, at),
+            byte(b, at + 1),
+            byte(b, at + 2),
+            byte(b, at + 3),
+        ])
+    }
 }
 
 // The number in the eight bytes from `at` on.
-#[tactic(auto, using(crate::proofs::Numbers::long_whole))]
 pub fn long(b: &[u8], at: usize) -> u64
+    requires { at ≤ 24 }
     ensures { result ≡ number_at at 8 b.now }
 {
-    u64::from_le_bytes(bytes(b, at))
+    word(b, at) as u64 + 4294967296 * (word(b, at + 4) as u64)
 }
 
 // The byte at `at` of record `i`.
@@ -78,6 +65,7 @@ pub fn byte_at(sheet: &[u8], i: usize, at: usize) -> u8
 
 // The number in the four bytes from `at` on of record `i`.
 pub fn word_at(sheet: &[u8], i: usize, at: usize) -> u32
+    requires { at ≤ 28 }
     ensures { result ≡ number_at at 4 (record_bytes sheet.now i) }
 {
     word(record(sheet, i), at)
@@ -85,6 +73,7 @@ pub fn word_at(sheet: &[u8], i: usize, at: usize) -> u32
 
 // The number in the eight bytes from `at` on of record `i`.
 pub fn long_at(sheet: &[u8], i: usize, at: usize) -> u64
+    requires { at ≤ 24 }
     ensures { result ≡ number_at at 8 (record_bytes sheet.now i) }
 {
     long(record(sheet, i), at)

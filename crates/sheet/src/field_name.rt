@@ -80,8 +80,8 @@ const NAME_MARKS: [u8; 256] = [
 // The mark of a byte that may start a name.
 const STARTS: u8 = 3;
 
-// The table of marks. Whoever judges many names makes it once, and lends it. It stays an array: the functions below promise what any 256 numbers say, and a type of
-// its own would ask their callers for the right ones.
+// The table of marks. Whoever judges many names makes it once, and lends it. It stays an array: the functions below promise what any 256 numbers say, and a
+// type of its own would hold any 256 numbers too, and be no plainer, or ask their callers for the right ones.
 pub fn name_marks() -> [u8; 256]
     ensures { HasMarks result }
 {
@@ -116,7 +116,7 @@ fn four_continue(marks: &[u8; 256], text: &[u8], at: usize) -> bool
         & continues_by(marks, text[at + 3])
 }
 
-// Whether each of the eight bytes from `at` on may.
+// Whether each of the eight bytes from `at` on may: eight are two fours.
 #[tactic(auto, using(crate::proofs::Marks::marks))]
 fn eight_continue(marks: &[u8; 256], text: &[u8], at: usize) -> bool
     requires { at + 8 ≤ length text.now }

@@ -1,5 +1,6 @@
 // The kinds of a record, and what each has. They are numbers and no enum: a kind is any byte of a sheet that may not have been judged, so that `sheet::kind` gives
-// any number, and each function here answers for every number. An enum would ask more of their callers.
+// any number, and each function here answers for every number. An enum would ask more of their callers. They tell kinds by comparisons and `&` and `|`, without
+// branches: by `matches!`, and with `get` in `bytes.rt`, `exercise` takes 3 in 100 more instructions, `bits` 14, and `exercise` is at its aim.
 ghost use Rattle.std.specs.Prelude.{◌≡◌, length};
 ghost use Rattle.rules.specs.Words.{within};
 ghost use Rattle.rules.specs.Kind;
@@ -90,14 +91,14 @@ pub const OPERAND: u8 = 60;
 pub fn is_type(kind: u8) -> bool
     ensures { result ≡ Kind.is_type kind }
 {
-    matches!(kind, PRIMITIVE..=BITS_INLINE)
+    (PRIMITIVE <= kind) & (kind <= BITS_INLINE)
 }
 
 // Whether the kind is one of a condition's.
 pub fn is_condition(kind: u8) -> bool
     ensures { result ≡ Kind.is_condition kind }
 {
-    matches!(kind, AND..=LEN_RANGE)
+    (AND <= kind) & (kind <= LEN_RANGE)
 }
 
 // Whether an item of a field list begins with a record of the kind.
@@ -118,15 +119,12 @@ pub fn is_variant_item(kind: u8) -> bool
 pub fn is_known(kind: u8) -> bool
     ensures { result ≡ Kind.known kind }
 {
-    matches!(
-        kind,
-        DECLARATION..=WILDCARD
-            | HEAD..=BACKING
-            | ANNOTATION..=BIT_NAME
-            | PRIMITIVE..=BITS_INLINE
-            | AND..=LEN_RANGE
-            | OPERAND
-    )
+    ((DECLARATION <= kind) & (kind <= WILDCARD))
+        | ((HEAD <= kind) & (kind <= BACKING))
+        | ((ANNOTATION <= kind) & (kind <= BIT_NAME))
+        | is_type(kind)
+        | is_condition(kind)
+        | (kind == OPERAND)
 }
 
 // Whether a record of the kind and the sub has a name.
@@ -134,21 +132,18 @@ pub fn is_known(kind: u8) -> bool
 pub fn is_named(kind: u8, sub: u8) -> bool
     ensures { result ≡ Kind.has_name kind sub }
 {
-    match kind {
-        DECLARATION
-        | IMPORTED_NAME
-        | HEAD
-        | FIELD
-        | VARIANT
-        | ANNOTATION
-        | ARGUMENT
-        | BIT_NAME
-        | NAMED
-        | QUALIFIED
-        | GENERIC => true,
-        OPERAND => sub == subs::CONST_REF,
-        _ => false,
-    }
+    (kind == DECLARATION)
+        | (kind == IMPORTED_NAME)
+        | (kind == HEAD)
+        | (kind == FIELD)
+        | (kind == VARIANT)
+        | (kind == ANNOTATION)
+        | (kind == ARGUMENT)
+        | (kind == BIT_NAME)
+        | (kind == NAMED)
+        | (kind == QUALIFIED)
+        | (kind == GENERIC)
+        | ((kind == OPERAND) & (sub == subs::CONST_REF))
 }
 
 // Whether the kind's value is an ordinal.
@@ -156,21 +151,21 @@ pub fn is_named(kind: u8, sub: u8) -> bool
 pub fn has_ordinal(kind: u8) -> bool
     ensures { result ≡ Kind.has_ordinal kind }
 {
-    matches!(kind, FIELD | FIELD_TOMBSTONE | VARIANT | TOMBSTONE)
+    (kind == FIELD) | (kind == FIELD_TOMBSTONE) | (kind == VARIANT) | (kind == TOMBSTONE)
 }
 
 // Whether the kind's value is another number: a literal, or an array's size.
 pub fn has_literal(kind: u8) -> bool
     ensures { result ≡ Kind.has_literal kind }
 {
-    matches!(kind, ARGUMENT | FIXED_ARRAY | OPERAND)
+    (kind == ARGUMENT) | (kind == FIXED_ARRAY) | (kind == OPERAND)
 }
 
 // Whether the kind has a span for its ordinal.
 pub fn has_ordinal_span(kind: u8) -> bool
     ensures { result ≡ Kind.has_ordinal_span kind }
 {
-    matches!(kind, FIELD | VARIANT)
+    (kind == FIELD) | (kind == VARIANT)
 }
 
 // How many subs the kind has: none, for a kind without a sub.

@@ -64,12 +64,14 @@ pub fn value(sheet: &[u8], i: usize) -> u64
     ensures { result ≡ value_in (record_bytes sheet.now i) }
 {
     let kind = kind(sheet, i);
-    let value = long_at(sheet, i, 24);
-    if kinds::has_ordinal(kind) || kinds::has_literal(kind) {
-        return value;
+    if kinds::has_ordinal(kind) {
+        return long_at(sheet, i, 24);
+    }
+    if kinds::has_literal(kind) {
+        return long_at(sheet, i, 24);
     }
     if kind == kinds::SUB_BYTE {
-        return value % 512;
+        return long_at(sheet, i, 24) % 512;
     }
     0
 }

@@ -1,5 +1,5 @@
 // The subs that the code names, by the record that has them. They are numbers and no enums: `sheet::sub` gives any byte, and what a sub says depends on the kind
-// beside it.
+// beside it; `is_named` and `types::is_declared_as`, which are public, take any.
 // Of a primitive type.
 pub const BOOL: u8 = 0;
 
