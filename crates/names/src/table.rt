@@ -10,24 +10,24 @@ ghost use Rattle.names.specs.SameEnds.{with_target};
 use rules::Sheet;
 use std::marker::Model;
 
-// Five numbers for each record, and two for the sheet. A place is a record's index and one more; 0 is none. Any numbers are a table: it says what it is
-// asked, and is right once it is filled. An import and a wildcard are numbers too, 1 where there is one: they stand in the definition's list of numbers, and
-// `entry` and `is_zero` read all parts alike; of a `bool` each law of the view would have to make a number. The parts stand side by side and not in one array of
-// structs: `is_silent` looks through two of them, and the definition's list has one after the other.
+// Five numbers for each record, and two for the sheet. A place is a record's index and one more; 0 is none. Any numbers are a table, and whoever likes can make
+// it: it says what it is asked, and is right once it is filled. An import and a wildcard are numbers too, 1 where there is one: they stand in the definition's
+// list of numbers, and `entry` and `is_zero` read all parts alike; of a `bool` each law of the view would have to make a number. The parts stand side by side
+// and not in one array of structs: `is_silent` looks through two of them, and the definition's list has one after the other.
 #[derive(Drop)]
 pub struct NameTable {
-    ids: [u16; Sheet::MAX_RECORDS],
+    pub ids: [u16; Sheet::MAX_RECORDS],
     // the places of the first declarations
-    declarations: [u16; Sheet::MAX_RECORDS],
+    pub declarations: [u16; Sheet::MAX_RECORDS],
     // 1 at an imported name
-    imported: [u16; Sheet::MAX_RECORDS],
+    pub imported: [u16; Sheet::MAX_RECORDS],
     // the places of the types that names are declared with
-    targets: [u16; Sheet::MAX_RECORDS],
-    codes: [u16; Sheet::MAX_RECORDS],
+    pub targets: [u16; Sheet::MAX_RECORDS],
+    pub codes: [u16; Sheet::MAX_RECORDS],
     // 1 if there is a wildcard
-    wildcards: u16,
+    pub wildcards: u16,
     // how many declarations there are
-    declared: u16,
+    pub declared: u16,
 }
 
 // Clauses see all numbers, part by part.
