@@ -157,6 +157,7 @@ module _ (fields : WholeRecords) where
     test : is Kind.Field (view_at sheet i) ≡ true
     test = kind-is sheet i kind 11 hk eq
 
+    -- `meets_variant` says so of variants; one law for both would take these five facts, and be as long at each call
     pub meets_field : IsItem seen.list i
     meets_field = rw k.list (h, test, has-ordinal kind 11 (kind_in (record_bytes sheet i)) hk eq field-has)
 

@@ -93,8 +93,8 @@ fn mark(number: u32) -> usize
 }
 
 // Whether the number is among those. Each turn asks one of the first and one of the last of them: two windows, which overlap where they must for the turns
-// to be a multiple of 8, as many as the compiled code takes at once. The library's `contains` takes an eighth longer where all ordinals share a mark: then
-// `marks` takes 0.27 of the Rust's whole way, and the aim is 0.25. Of a `fold` over both windows by `zip` the result is not proved: the search finds no way
+// to be a multiple of 8, as many as the compiled code takes at once. The library's `contains` takes an eighth longer where all ordinals share a mark, and
+// `marks` is at its aim (0.24 of the Rust's whole way on one machine, 0.28 on another; the aim is 0.25). Of a `fold` over both windows by `zip` the result is not proved: the search finds no way
 // from the pairs that `zip` gives to the numbers at each index.
 fn contains(numbers: &[u32], number: u32) -> bool
     ensures { result ≡ member number (latest numbers.now 0 (length numbers.now)) }
