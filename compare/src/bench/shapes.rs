@@ -42,7 +42,7 @@ const fn shape(
     }
 }
 
-pub const SHAPES: [Shape; 18] = [
+pub const SHAPES: [Shape; 19] = [
     shape("exercise", 50, exercise, "a message of a dozen fields"),
     shape("prefix", FULL, prefix, "511 fields, a common prefix"),
     shape("overlap", FULL, overlap, "511 names of 255 bytes"),
@@ -73,6 +73,12 @@ pub const SHAPES: [Shape; 18] = [
         FULL,
         variant_fields,
         "16 in each of 31 variants",
+    ),
+    shape(
+        "bare-variants",
+        FULL,
+        bare_variants,
+        "1,022 variants of a union",
     ),
     shape("collisions", FULL, collisions, "511 names of one bucket"),
     shape("marks", FULL, marks, "1,022 ordinals of one mark"),
@@ -399,6 +405,17 @@ fn union(maker: &mut Maker) {
         maker.draft.variant(name.as_bytes(), ordinals[i] as u64);
         maker.field("value", 0);
         maker.leaf();
+    }
+}
+
+/// Variants of a union without fields.
+fn bare_variants(maker: &mut Maker) {
+    maker.head(sub::HEAD_UNION);
+    let count = maker.most - 2;
+    let ordinals = maker.ordered(count);
+    for i in 0..count {
+        let name = format!("Variant_{i}");
+        maker.draft.variant(name.as_bytes(), ordinals[i] as u64);
     }
 }
 

@@ -17,7 +17,6 @@ pub mod Ordinals
 pub mod Passing
 pub mod Retired
 pub mod RunEnds
-pub mod SingleField
 pub mod Turns
 pub mod Variants
 pub mod WholeRecords

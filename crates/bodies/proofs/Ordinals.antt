@@ -98,18 +98,6 @@ module _ (sheet : List ℕ) (i : ℕ) (tombstoned met : Bool) (old mid now : Vio
         (name ∙ all_found 13 5 again (span_in (record_bytes sheet i)) (state_of mid) (λ p. refl));
   }
 
-  -- those of the ordinal of a field whose name is not met; docs/PROOFS.md names it, and no proof does
-  pub field-alone :
-      state_of mid ≡ push_ordinal (record { greatest = 65535; too_large = 15; reused = 16; duplicate = 14 }) sheet i tombstoned met (state_of old) →
-      Adds old mid (member_found field_scheme tombstoned met false (view_at sheet i))
-  unfolding rule_row flat_map
-  field-alone state = record {
-    reference = reference;
-    state =
-        member-found (record { greatest = 65535; too_large = 15; reused = 16; duplicate = 14 }) 2 3 4 (λ p. refl) (λ p. refl) (λ p. refl)
-        (5 ∷ []) sheet i tombstoned met false (state_of old) (state_of mid) (state_of mid) state (sym (found_none (state_of mid)));
-  }
-
   pub enum-members :
       state_of mid ≡ push_ordinal (record { greatest = 65535; too_large = 35; reused = 34; duplicate = 34 }) sheet i tombstoned met (state_of old) →
       Adds old mid (member_found enum_scheme tombstoned met false (view_at sheet i))

@@ -30,7 +30,7 @@ fn check_invariant(sheet: &[u8], violations: &mut Violations, i: usize)
 // Adds what is wrong with the ordinal and the name of the field: rules 2 to 5.
 #[inline(always)]
 #[tactic(auto, using(crate::proofs::Ordinals::field_fine))]
-pub fn check_ordinal_and_name(violations: &mut Violations, field: MetItem, renamed: bool)
+fn check_ordinal_and_name(violations: &mut Violations, field: MetItem, renamed: bool)
     ensures { Adds violations.old violations.new (member_found field_scheme field.entry.meeting.tombstoned field.entry.meeting.met renamed (view_at field.entry.sheet.now field.entry.index)) }
 {
     let fine = OrdinalRules::FIELD.allow(field) & !renamed;
@@ -59,7 +59,7 @@ fn check_all_parts(rest: WholeRecords, violations: &mut Violations) -> usize
 // Adds what is wrong with the parts of the field that the records start with, if it has any, and returns where they end. Those of a bare field are told
 // without a call, and so it is inlined.
 #[inline(always)]
-pub fn check_parts(rest: WholeRecords, violations: &mut Violations) -> usize
+fn check_parts(rest: WholeRecords, violations: &mut Violations) -> usize
     ensures found { Adds violations.old violations.new (field_violations (context_in rest.entry.context) (view_of rest.entry.context.sheet.now rest.entry.range.start result)) }
     ensures end { RunTo in_field rest.entry.context.sheet.now rest.entry.range.start rest.entry.range.end result }
 {

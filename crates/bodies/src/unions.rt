@@ -6,40 +6,14 @@ ghost use Rattle.names.specs.View.{view_at};
 ghost use Rattle.diagnostic.specs.Violations.{Adds};
 ghost use Rattle.bodies.specs.Ordinal.{member_found};
 
-use crate::message::{check_message_body, check_ordinal_and_name, check_parts};
+use crate::message::check_message_body;
 use crate::ordinal::OrdinalRules;
-use crate::runs::{is_field_part, is_variant_part, run_end};
-use crate::seen::{ItemList, Meeting, MetItem, Seen};
+use crate::runs::{is_variant_part, run_end};
+use crate::seen::{ItemList, MetItem, Seen};
 use crate::whole::WholeRecords;
 use annotations::MetNames;
 use diagnostic::Violations;
 use sheet::kinds;
-
-// Adds what is wrong with the fields of a variant, by the names lent for them. For a single field, before which nothing is met, no numbers and no names
-// are kept.
-fn check_fields<'a>(fields: WholeRecords<'a>, violations: &mut Violations, names: &mut MetNames<'a>)
-    ensures { Adds violations.old violations.new (field_list_violations (context_in fields.entry.context) (records_in fields.entry.context fields.entry.range)) }
-{
-    if fields.range.is_empty() {
-        return;
-    }
-    let field = fields.range.start;
-    let rest = fields.from(field + 1);
-    let end = run_end(rest, is_field_part);
-    let several = (fields.kind(field) != kinds::FIELD) | (end < fields.range.end);
-    if several {
-        check_message_body(fields, violations, names);
-        return;
-    }
-    let single = MetItem {
-        sheet: fields.context.sheet,
-        index: field,
-        ordinal: fields.ordinal(field),
-        meeting: Meeting::NONE,
-    };
-    check_ordinal_and_name(violations, single, false);
-    check_parts(rest, violations);
-}
 
 // Adds what is wrong with the variant that has those fields, by the names lent for them.
 fn check_variant<'a>(
@@ -51,7 +25,7 @@ fn check_variant<'a>(
     ensures { Adds violations.old violations.new (member_found union_scheme variant.entry.meeting.tombstoned variant.entry.meeting.met false (view_at variant.entry.sheet.now variant.entry.index) ++ field_list_violations (context_in fields.entry.context) (records_in fields.entry.context fields.entry.range)) }
 {
     OrdinalRules::UNION.check(violations, variant);
-    check_fields(fields, violations, names);
+    check_message_body(fields, violations, names);
 }
 
 // Adds what is wrong with the union. The names of fields are kept in one place, which serves one variant after the other.
