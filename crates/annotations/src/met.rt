@@ -1,5 +1,6 @@
 // The names that the records of a list have, in slots: for a long list.
 ghost use Rattle.std.specs.Prelude.{◌≡◌, ◌+◌, ◌%◌, ◌≤◌, ◌<◌};
+ghost use Rattle.names.specs.NameTable.{max_records};
 ghost use Rattle.names.specs.Known.{numbers_of};
 ghost use Rattle.annotations.specs.Met.{is_met};
 ghost use Rattle.annotations.specs.Named.{row_of, HasNames};
@@ -11,7 +12,7 @@ use std::marker::Model;
 
 // The slot of a name. The names of a sheet have slots of their own.
 fn slot(id: u16) -> usize
-    ensures { (result ≡ id % 1024) × (result < 1024) }
+    ensures { (result ≡ id % max_records) × (result < max_records) }
 {
     usize::from(id) % Sheet::MAX_RECORDS
 }
@@ -44,7 +45,7 @@ impl Slots {
     // Puts the name of record `i` into its slot, if it is one of the records.
     #[inline(always)]
     fn put(&mut self, records: NamedRecords, i: usize)
-        requires { HasNames records self.old.behind i × (i < 1024) }
+        requires { HasNames records self.old.behind i × (i < max_records) }
         ensures { HasNames records.entry self.new.behind (i + 1) }
     {
         if sheet::kind(records.context.sheet, i) == records.kind {

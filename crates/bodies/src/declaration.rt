@@ -2,6 +2,7 @@
 ghost use Rattle.std.specs.Prelude.{◌/◌, length, leb};
 ghost use Rattle.rules.specs.Words.{only_if};
 ghost use Rattle.rules.specs.Record.{record_size};
+ghost use Rattle.rules.specs.Refusals.{max_length};
 ghost use Rattle.rules.specs.Bodies.{body_violations, violations_of};
 ghost use Rattle.names.specs.Known.{context_in, records_in};
 ghost use Rattle.names.specs.View.{view_of};
@@ -35,7 +36,7 @@ fn check_body(body: WholeRecords, violations: &mut Violations, sub: u8)
 
 // Adds what is wrong with the declaration that the sheet holds; nothing if the sheet is longer than row 1 allows.
 pub fn check_declaration(context: ValidationContext, violations: &mut Violations)
-    ensures { Adds violations.old violations.new (only_if (leb (length context.entry.sheet.now) 32768) (violations_of (context_in context.entry) (view_of context.entry.sheet.now 0 (length context.entry.sheet.now / record_size)))) }
+    ensures { Adds violations.old violations.new (only_if (leb (length context.entry.sheet.now) max_length) (violations_of (context_in context.entry) (view_of context.entry.sheet.now 0 (length context.entry.sheet.now / record_size)))) }
 {
     if Sheet::MAX_LEN < context.sheet.len() {
         return;

@@ -3,6 +3,7 @@ ghost use Rattle.std.specs.Prelude.{◌≡◌, ◌≢◌, ◌+◌, ◌%◌, ◌�
 ghost use Rattle.rules.specs.Words.{member};
 ghost use Rattle.rules.specs.Kind;
 ghost use Rattle.rules.specs.Record.{value_in, record_bytes};
+ghost use Rattle.names.specs.NameTable.{max_records};
 ghost use Rattle.bodies.specs.Earlier.{has_value, values_of, values_before};
 ghost use Rattle.bodies.specs.Seen.{latest};
 ghost use Rattle.bodies.specs.Met.{sheet_of, start_of, IsItem, tombstoned_in, met_before, KeptBefore, KnownBefore};
@@ -154,7 +155,7 @@ impl<'a> Seen<'a> {
 
     // Keeps the number behind those that are kept, and sets its mark.
     fn keep(&mut self, number: u32)
-        requires { self.old.len < 1024 }
+        requires { self.old.len < max_records }
         ensures list { self.new.list ≡ self.old.list }
         ensures ordinals { self.new.ordinals ≡ slice_set self.old.ordinals self.old.len number }
         ensures marks { self.new.marks ≡ slice_set self.old.marks (number % 1021) true }

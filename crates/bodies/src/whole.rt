@@ -1,7 +1,8 @@
 // Whole records of a sheet, which are read without a test of where the sheet ends.
 ghost use Rattle.std.specs.Prelude.{◌≡◌, true, ◌+◌, ◌*◌, ◌<◌, ◌≤◌, length};
 ghost use Rattle.rules.specs.Kind;
-ghost use Rattle.rules.specs.Record.{record_bytes, kind_in, value_in};
+ghost use Rattle.rules.specs.Record.{record_size, record_bytes, kind_in, value_in};
+ghost use Rattle.names.specs.NameTable.{max_records};
 
 use names::ValidationContext;
 use rules::{RecordRange, Sheet};
@@ -13,8 +14,8 @@ pub struct WholeRecords<'a> {
     pub context: ValidationContext<'a>,
     pub range: RecordRange,
     pub ghost ordered: { range.start ≤ range.end },
-    pub ghost few: { range.end ≤ 1024 },
-    pub ghost whole: { range.end * 32 ≤ length context.sheet.now },
+    pub ghost few: { range.end ≤ max_records },
+    pub ghost whole: { range.end * record_size ≤ length context.sheet.now },
 }
 
 impl<'a> WholeRecords<'a> {

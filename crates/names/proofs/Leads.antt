@@ -1,12 +1,12 @@
 -- A name's first record is found in the chain of its bucket: a record with the name has the same bytes, so it has the same bucket, and the chain
 -- has every first record of the bucket.
-use Prim.Native.Nat.{ℕ, suc, ◌+◌, ◌-◌, ◌/◌, ◌≤◌, ◌<◌}
+use Prim.Native.Nat.{ℕ, suc, ◌+◌, ◌-◌, ◌≤◌, ◌<◌}
 use native.Mathlib.Decide.{dec_lt, ℕ_discrete}
 use native.Mathlib.Omega.{arith}
-use mathlib.Core.Path.{◌≡◌, refl, sym, ap, ◌∙◌}
+use mathlib.Core.Path.{◌≡◌, sym, ap, ◌∙◌}
 use mathlib.Core.Bool.{Bool, true, false}
 use mathlib.Core.List.{List}
-use lib.ListN.{length, get_or, set, replicate, length-set, length-replicate}
+use lib.ListN.{get_or, set, replicate, length-set, length-replicate}
 use lib.Seq.{get_or-set_same, get_or-set_other}
 use Rattle.rules.specs.declared.span.Span.{Span}
 use Rattle.rules.specs.Words.{same_bytes}
@@ -16,7 +16,7 @@ use Rattle.names.specs.Parts.{known_count, record_of}
 use Rattle.names.specs.Buckets.{bucket_of, Lead, LastLead, Chained}
 use Rattle.names.proofs.Columns.{zeros-at}
 use Rattle.names.proofs.Known.{known-few, known_bounds}
-use Rattle.names.proofs.Numbers.{whole-known, keyed-named, names-compared}
+use Rattle.names.proofs.Numbers.{keyed-named, names-compared}
 use Rattle.names.proofs.SameIds.{same-tells}
 use Rattle.names.proofs.Firsts.{id_at, id-unnamed, id-known, id-same-name, id-within, id-shared}
 
@@ -75,10 +75,10 @@ module _ (sheet names : List ℕ) where
       (omega arith, l.within, record { before = l.within; leads = l.leads; ahead = λ j g lead same. l.last j g lead })
 
   -- the record at the place has a name
-  pub walk-named : (i place : ℕ) → Sought i place → (place ≡ 0 → ⊥) → (place - 1 < length sheet / 32) × (is_named (at (place - 1)) ≡ true)
+  pub walk-named : (i place : ℕ) → Sought i place → (place ≡ 0 → ⊥) → (place - 1 < known_count sheet) × (is_named (at (place - 1)) ≡ true)
   walk-named i place s some =
       let here = s.leads (place - 1) (omega arith) in
-      (whole-known sheet (place - 1) (known_count sheet) refl here.known-record, keyed-named (at (place - 1)) here.named)
+      (here.known-record, keyed-named (at (place - 1)) here.named)
 
   -- a record of the chain with another name is passed
   pub sought-next :

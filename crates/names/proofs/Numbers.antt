@@ -1,12 +1,12 @@
 -- What code reads and finds of a record is what the definitions say of it: each law takes what was read and what the tests said at one
 -- `return`.
-use Prim.Native.Nat.{ℕ, ◌-◌, ◌*◌, ◌/◌, ◌≤◌, ◌<◌}
+use Prim.Native.Nat.{ℕ, ◌*◌, ◌≤◌, ◌<◌}
 use mathlib.Core.Path.{◌≡◌, refl, ◌∙◌, sym}
 use mathlib.Core.Bool.{Bool, true, false, ◌&&◌, true≢false, not, ◌||◌}
 use mathlib.Core.List.{List}
 use native.Mathlib.Omega.{arith}
-use lib.ListN.{length, get_or, take, drop, length-drop}
-use lib.Seq.{take-take, take_all}
+use lib.ListN.{get_or, take, drop}
+use lib.Seq.{take-take}
 use Rattle.std.proofs.lemmas.Bool.{and_parts}
 use Rattle.rules.specs.declared.span.Span.{Span}
 use Rattle.rules.specs.Kind
@@ -16,10 +16,6 @@ use Rattle.names.specs.NameTable.{column, is_named, is_keyed, same_name}
 use Rattle.names.specs.Parts.{known, known_count, record_of}
 use Rattle.names.proofs.Known.{length-known, known_at, known_bounds}
 use Rattle.names.proofs.Columns.{column-at}
-
-pub whole-known : (sheet : List ℕ) (i n : ℕ) → n ≡ known_count sheet → i < n → i < length sheet / 32
-unfolding known_count
-whole-known sheet i n h l = omega arith
 
 -- a record with a name whose kind passes a test, and one that passes it with its name
 tested-named : (n t f : Bool) → ((n && t) && f) ≡ true → (n && f) ≡ true
@@ -77,16 +73,14 @@ module _ (sheet names : List ℕ) (i : ℕ) where
       both true b = refl
       both false b = refl
 
+  -- and so the part fits
+  pub name_fitting : is_named (record_of sheet names i) ≡ true → name_fits names (record_bytes sheet i) ≡ true
+  name_fitting named = (and_parts (is_named_in (record_bytes sheet i)) (name_fits names (record_bytes sheet i)) (sym named_by ∙ named)).1
+
   pub name_by : is_named (record_of sheet names i) ≡ true → name_in names (record_bytes sheet i) ≡ take (name_length (record_bytes sheet i)) (drop (name_offset (record_bytes sheet i)) names)
   unfolding name_in
   name_by named =
       let parts = and_parts (is_named_in (record_bytes sheet i)) (name_fits names (record_bytes sheet i)) (sym named_by ∙ named) in rw (parts.0, parts.1)
-
--- a part cut out of the rest of a text
-pub rest_part : (text : List ℕ) (start len : ℕ) → take (len - 0) (drop 0 (take (length text - start) (drop start text))) ≡ take len (drop start text)
-rest_part text start len =
-    let size : len - 0 ≡ len = omega arith in
-    rw (size, take_all (length text - start) (drop start text) (omega (arith, length-drop start text)))
 
 -- a record is the first of its own bytes
 module _ (sheet own : List ℕ) (i : ℕ) (e : own ≡ record_bytes sheet i) where

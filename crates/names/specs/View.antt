@@ -48,6 +48,10 @@ target_part = 3
 abbrev pub code_part : ℕ
 code_part = 4
 
+-- the greatest number of 16 bits, which a place may be: an index, which is one less, is below it
+abbrev pub max_place : ℕ
+max_place = 65535
+
 -- the number for record i in a part of the table; 0 for a record past the last that the table has
 unfoldable pub entry_of : ℕ → List ℕ → ℕ → ℕ
 entry_of part table i = number_if (ltb i max_records) (get_or table (part * max_records + i) 0)

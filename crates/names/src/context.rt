@@ -1,7 +1,7 @@
 // What a declaration is checked against: the sheet, and the table of its names, which is asked by the records that have them.
 ghost use Rattle.std.specs.Prelude.{◌≡◌, ◌<◌, not, eqb, IfSome};
 ghost use Rattle.rules.specs.Context as Context;
-ghost use Rattle.names.specs.View.{view_at, entry_of, id_part, declaration_part, import_part, target_part, code_part, wildcard_of, declarations_of};
+ghost use Rattle.names.specs.View.{view_at, entry_of, id_part, declaration_part, import_part, target_part, code_part, max_place, wildcard_of, declarations_of};
 ghost use Rattle.names.specs.WordOf.{word_of};
 ghost use Rattle.names.specs.Known.{numbers_of, context_in, index_at, at_place};
 
@@ -27,10 +27,10 @@ impl<'a> ValidationContext<'a> {
         self.table.id(i)
     }
 
-    // The first declaration of the name, if there is one. That an index is below 65535 is handed on to where a place is made of it.
+    // The first declaration of the name, if there is one. That an index is below the greatest place is handed on to where a place is made of it.
     pub fn declaration(self, i: usize) -> Option<usize>
         ensures record { result ≡ index_at (entry_of declaration_part (numbers_of self.entry) i) }
-        ensures small { IfSome result (λ d. d < 65535) }
+        ensures small { IfSome result (λ d. d < max_place) }
     {
         self.table.declaration(i)
     }
@@ -45,7 +45,7 @@ impl<'a> ValidationContext<'a> {
     // The type that the name is declared with, if there is one.
     pub fn target(self, i: usize) -> Option<usize>
         ensures record { result ≡ index_at (entry_of target_part (numbers_of self.entry) i) }
-        ensures small { IfSome result (λ t. t < 65535) }
+        ensures small { IfSome result (λ t. t < max_place) }
     {
         self.table.target(i)
     }
@@ -90,7 +90,7 @@ impl<'a> ValidationContext<'a> {
     #[tactic(auto, using(crate::proofs::Behind::behind_rules))]
     pub fn behind(self, i: usize) -> Option<usize>
         ensures record { at_place self.entry.sheet.now result ≡ Context.behind (context_in self.entry) (view_at self.entry.sheet.now i) }
-        ensures small { IfSome result (λ t. t < 65535) }
+        ensures small { IfSome result (λ t. t < max_place) }
     {
         if sheet::kind(self.sheet, i) != kinds::NAMED {
             return None;
@@ -103,7 +103,7 @@ impl<'a> ValidationContext<'a> {
     #[tactic(auto, using(crate::proofs::Chain::chain_rules))]
     pub fn chain_end(self, i: usize) -> usize
         ensures end { view_at self.entry.sheet.now result ≡ Context.chain_end (context_in self.entry) (declarations_of (numbers_of self.entry)) (view_at self.entry.sheet.now i) }
-        ensures small { i < 65535 → result < 65535 }
+        ensures small { i < max_place → result < max_place }
     {
         let mut at = i;
         for _ in 0..self.declarations() {

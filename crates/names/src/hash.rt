@@ -1,5 +1,6 @@
 // The bucket of a name. Its bytes are weighed four at a time, those of a long name at its ends and in its middle.
 ghost use Rattle.std.specs.Prelude.{◌≡◌, ◌+◌, ◌*◌, ◌≤◌, ◌<◌, length, get_or};
+ghost use Rattle.names.specs.NameTable.{max_records};
 ghost use Rattle.names.specs.Buckets.{word_at, weighed_bytes, weighed, bucket_of};
 
 use rules::Sheet;
@@ -62,7 +63,7 @@ fn weigh(name: &[u8]) -> u64
 // The bucket.
 #[tactic(auto, unfolding(crate::specs::Buckets::bucket_of))]
 pub fn bucket(name: &[u8]) -> usize
-    ensures { (result ≡ bucket_of name.now) × (result < 1024) }
+    ensures { (result ≡ bucket_of name.now) × (result < max_records) }
 {
     let sum = weigh(name);
     ((sum / 262144 + sum / 1099511627776) % Sheet::MAX_RECORDS as u64) as usize

@@ -1,6 +1,6 @@
 // Where the name of a record is met first: the id.
 ghost use Rattle.std.specs.Prelude.{◌≡◌, true, List, ℕ, ◌+◌, ◌≤◌, ◌<◌, MatchOption};
-ghost use Rattle.names.specs.NameTable.{is_keyed};
+ghost use Rattle.names.specs.NameTable.{max_records, is_keyed};
 ghost use Rattle.names.specs.Buckets.{bucket_of, Chained};
 ghost use Rattle.names.specs.NamedRecord.{named_record, id_of, ChainedBefore};
 
@@ -35,7 +35,7 @@ impl Chains {
     // the name.
     #[tactic(auto, using(crate::proofs::Leads::walks))]
     fn find(&self, named: &Named, bucket: usize) -> Option<usize>
-        requires { (is_keyed (named_record named.now) ≡ true) × (bucket ≡ bucket_of named.now.name.now) × (bucket < 1024) × ChainedBefore named.now self.now.heads self.now.links }
+        requires { (is_keyed (named_record named.now) ≡ true) × (bucket ≡ bucket_of named.now.name.now) × (bucket < max_records) × ChainedBefore named.now self.now.heads self.now.links }
         ensures { MatchOption result (id_of named.now ≡ named.now.index) (λ id. (id ≡ id_of named.now) × (id < named.now.index)) }
     {
         // A walk along a chain. As `successors` and `find` it is not proved: its closure would have to say that each place is a record's, and the chain finite.

@@ -1,5 +1,6 @@
 // What is noted at an id while the records are read, and spread to all records with that id after. A place is an index and one more; 0 is none.
 ghost use Rattle.std.specs.Prelude.{◌≡◌, ◌+◌, ◌<◌};
+ghost use Rattle.names.specs.NameTable.{max_records};
 ghost use Rattle.names.specs.NamedRecord.{id_of};
 ghost use Rattle.names.specs.Notes.{set_first, Read, Spread};
 ghost use Rattle.names.specs.Parts.{known_count};
@@ -12,7 +13,7 @@ use sheet::kinds;
 // Notes what the record says of its name, which has that id.
 #[tactic(auto, using(crate::proofs::Noting::notes))]
 pub fn note(named: &Named, table: &mut NameTable, id: usize)
-    requires { (id < 1024) × (id ≡ id_of named.now) × Read named.now.sheet.now named.now.names.now table.old (named.now.index + 1) named.now.index }
+    requires { (id < max_records) × (id ≡ id_of named.now) × Read named.now.sheet.now named.now.names.now table.old (named.now.index + 1) named.now.index }
     ensures { Read named.now.sheet.now named.now.names.now table.new (named.now.index + 1) (named.now.index + 1) }
 {
     match named.kind {

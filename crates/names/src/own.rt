@@ -1,4 +1,4 @@
-// The name of a record, read from its own bytes, so that where they end is tested once.
+// A record with its name, read from its own bytes, so that where they end is tested once.
 ghost use Rattle.std.specs.Prelude.{◌≡◌, true, false, ◌/◌, ◌<◌, length, MatchOption};
 ghost use Rattle.rules.specs.Record.{record_bytes, kind_in, name_in};
 ghost use Rattle.names.specs.NameTable.{is_named};
@@ -15,30 +15,32 @@ fn own_bytes(sheet: &[u8], i: usize) -> &[u8]
     &sheet[at..at + Sheet::RECORD]
 }
 
-// The name of the record with these bytes, if it has one and the name fits. `sheet::name` gives no bytes both for an empty name and for none; here the two are told
-// apart.
-#[tactic(auto, using(crate::proofs::Numbers::named_by, crate::proofs::Numbers::name_by, crate::proofs::Numbers::rest_part))]
-fn own_name<'a>(own: &[u8], names: &'a [u8]) -> Option<&'a [u8]>
-    ensures { MatchOption result (is_named (record_of own.now names.now 0) ≡ false) (λ name. (is_named (record_of own.now names.now 0) ≡ true) × (name.now ≡ name_in names.now (record_bytes own.now 0))) }
+// Whether the record with these bytes has a name, and the name fits.
+#[tactic(auto, unfolding(crate::specs::Parts::record_of, rules::specs::Record::decode))]
+fn is_named(own: &[u8], names: &[u8]) -> bool
+    ensures { result ≡ is_named (record_of own.now names.now 0) }
 {
-    if !sheet::has_name(own, 0) {
-        return None;
-    }
-    let start = sheet::name_offset(own, 0);
-    let len = sheet::name_len(own, 0);
-    names.get(start..)?.get(..len)
+    sheet::has_name(own, 0) && sheet::fits(own, names, 0)
 }
 
-// The name of record `i`, which has one that fits.
-#[tactic(auto, using(crate::proofs::Numbers::named_by, crate::proofs::Numbers::name_by))]
-pub fn name_at<'a>(sheet: &[u8], names: &'a [u8], i: usize) -> &'a [u8]
-    requires { (i < length sheet.now / 32) × (is_named (record_of sheet.now names.now i) ≡ true) }
-    ensures { result.now ≡ name_in names.now (record_bytes sheet.now i) }
+// The name of the record with these bytes, which has one that fits: that part of the names text.
+#[tactic(auto, using(crate::proofs::Numbers::name_fitting, crate::proofs::Numbers::name_by))]
+fn name<'a>(own: &[u8], names: &'a [u8]) -> &'a [u8]
+    requires { is_named (record_of own.now names.now 0) ≡ true }
+    ensures { result.now ≡ name_in names.now (record_bytes own.now 0) }
 {
-    let own = own_bytes(sheet, i);
     let start = sheet::name_offset(own, 0);
     let end = start + sheet::name_len(own, 0);
     &names[start..end]
+}
+
+// The name of record `i`, which has one that fits.
+#[tactic(auto, using(crate::proofs::Numbers::again))]
+pub fn name_at<'a>(sheet: &[u8], names: &'a [u8], i: usize) -> &'a [u8]
+    requires { (i < known_count sheet.now) × (is_named (record_of sheet.now names.now i) ≡ true) }
+    ensures { result.now ≡ name_in names.now (record_bytes sheet.now i) }
+{
+    name(own_bytes(sheet, i), names)
 }
 
 // A record that has a name that fits, and what is read of it.
@@ -65,14 +67,16 @@ impl<'a> Named<'a> {
         ensures { MatchOption result (is_named (record_of sheet.now names.now i) ≡ false) (λ named. (named.sheet.now ≡ sheet.now) × (named.names.now ≡ names.now) × (named.index ≡ i)) }
     {
         let own = own_bytes(sheet, i);
-        let name = own_name(own, names)?;
+        if !is_named(own, names) {
+            return None;
+        }
         Some(Named {
             sheet,
             names,
             index: i,
             own,
             kind: sheet::kind(own, 0),
-            name,
+            name: name(own, names),
         })
     }
 }

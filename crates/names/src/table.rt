@@ -1,8 +1,8 @@
 // The table of names: what the rules ask of the name of each record.
-ghost use Rattle.std.specs.Prelude.{◌≡◌, ◌+◌, ◌<◌, ◌≤◌, true, not, eqb, [], ◌∷◌, ◌++◌, ℕ, length, get_or, set, take, replicate, ltb, IfSome};
+ghost use Rattle.std.specs.Prelude.{◌≡◌, ◌+◌, ◌*◌, ◌<◌, ◌≤◌, true, not, eqb, [], ◌∷◌, ◌++◌, ℕ, length, get_or, set, take, replicate, ltb, IfSome};
 ghost use Rattle.rules.specs.Words.{number_if};
 ghost use Rattle.names.specs.NameTable.{max_records};
-ghost use Rattle.names.specs.View.{entry_of, id_part, declaration_part, import_part, target_part, code_part, wildcard_of, declarations_of};
+ghost use Rattle.names.specs.View.{entry_of, id_part, declaration_part, import_part, target_part, code_part, max_place, wildcard_of, declarations_of};
 ghost use Rattle.names.specs.Known.{index_at};
 ghost use Rattle.names.specs.Notes.{set_first, Silent};
 ghost use Rattle.names.specs.SameEnds.{with_target};
@@ -49,7 +49,7 @@ fn entry(part: &[u16; Sheet::MAX_RECORDS], i: usize) -> u16
 // The record at a place; none at 0.
 fn record_at(place: u16) -> Option<usize>
     ensures record { result ≡ index_at place }
-    ensures small { IfSome result (λ i. i < 65535) }
+    ensures small { IfSome result (λ i. i < max_place) }
 {
     place.checked_sub(1).map(usize::from)
 }
@@ -89,7 +89,7 @@ impl NameTable {
     #[tactic(auto, unfolding(crate::specs::View::entry_of))]
     pub fn declaration(&self, i: usize) -> Option<usize>
         ensures record { result ≡ index_at (entry_of declaration_part self.now i) }
-        ensures small { IfSome result (λ d. d < 65535) }
+        ensures small { IfSome result (λ d. d < max_place) }
     {
         record_at(entry(&self.declarations, i))
     }
@@ -106,7 +106,7 @@ impl NameTable {
     #[tactic(auto, unfolding(crate::specs::View::entry_of))]
     pub fn target(&self, i: usize) -> Option<usize>
         ensures record { result ≡ index_at (entry_of target_part self.now i) }
-        ensures small { IfSome result (λ t. t < 65535) }
+        ensures small { IfSome result (λ t. t < max_place) }
     {
         record_at(entry(&self.targets, i))
     }
@@ -146,7 +146,7 @@ impl NameTable {
     // Stores the id of record `i`.
     #[tactic(auto, using(crate::proofs::Joined::stored_first))]
     pub(crate) fn set_id(&mut self, i: usize, id: usize)
-        requires { (i < 1024) × (id < 1024) }
+        requires { (i < max_records) × (id < max_records) }
         ensures { self.new ≡ set self.old (0 + i) id }
     {
         // a sheet has fewer records than 16 bits count
@@ -155,7 +155,7 @@ impl NameTable {
 
     // Stores the code of record `i`.
     pub(crate) fn set_code(&mut self, i: usize, code: u16)
-        requires { i < 1024 }
+        requires { i < max_records }
         ensures { self.new ≡ set self.old (4096 + i) code }
     {
         self.codes[i] = code;
@@ -164,8 +164,8 @@ impl NameTable {
     // Notes that record `i` declares the name with that id, unless one before it does.
     #[tactic(auto, using(crate::proofs::Joined::stored_there), unfolding(crate::specs::Notes::set_first))]
     pub(crate) fn note_declaration(&mut self, i: usize, id: usize)
-        requires { (i < 1024) × (id < 1024) }
-        ensures { self.new ≡ set_first self.old (1024 + id) (i + 1) }
+        requires { (i < max_records) × (id < max_records) }
+        ensures { self.new ≡ set_first self.old (max_records + id) (i + 1) }
     {
         if self.declarations[id] == 0 {
             // a sheet has fewer records than 16 bits count
@@ -176,15 +176,15 @@ impl NameTable {
     // Notes that the name with that id is imported.
     #[tactic(auto, using(crate::proofs::Joined::stored_third))]
     pub(crate) fn note_import(&mut self, id: usize)
-        requires { id < 1024 }
-        ensures { self.new ≡ set self.old (2048 + id) 1 }
+        requires { id < max_records }
+        ensures { self.new ≡ set self.old (2 * max_records + id) 1 }
     {
         self.imported[id] = 1;
     }
 
     // The id that is stored for record `i`.
     pub(crate) fn stored_id(&self, i: usize) -> usize
-        requires { i < 1024 }
+        requires { i < max_records }
         ensures { result ≡ get_or self.now (0 + i) 0 }
     {
         usize::from(self.ids[i])
@@ -193,9 +193,9 @@ impl NameTable {
     // Stores for record `i` what is noted at that id, and says where the declaration is.
     #[tactic(auto, using(crate::proofs::Joined::copied))]
     pub(crate) fn copy_notes(&mut self, i: usize, id: usize) -> usize
-        requires { (i < 1024) × (id < 1024) }
-        ensures place { result ≡ get_or self.old (1024 + id) 0 }
-        ensures stored { self.new ≡ set (set self.old (1024 + i) (get_or self.old (1024 + id) 0)) (2048 + i) (get_or self.old (2048 + id) 0) }
+        requires { (i < max_records) × (id < max_records) }
+        ensures place { result ≡ get_or self.old (max_records + id) 0 }
+        ensures stored { self.new ≡ set (set self.old (max_records + i) (get_or self.old (max_records + id) 0)) (2 * max_records + i) (get_or self.old (2 * max_records + id) 0) }
     {
         let place = self.declarations[id];
         self.declarations[i] = place;
@@ -206,7 +206,7 @@ impl NameTable {
     // Whether nothing is noted at the first `n` ids.
     #[tactic(auto, using(crate::proofs::Joined::silent_all))]
     pub(crate) fn is_silent(&self, n: usize) -> bool
-        requires { n ≤ 1024 }
+        requires { n ≤ max_records }
         ensures { result ≡ true → Silent self.now n }
     {
         is_zero(&self.declarations[..n]) && is_zero(&self.imported[..n])

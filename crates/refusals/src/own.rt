@@ -54,7 +54,7 @@ fn is_cut(bytes: &[u8; Sheet::RECORD], names: &[u8]) -> bool
     (names.len() < name_end(bytes)) && kinds::is_named(bytes[0], bytes[1])
 }
 
-// Row 5: whether the ordinal is over 4294967295.
+// Row 5: whether the ordinal is greater than is accepted.
 #[tactic(auto, using(crate::proofs::OwnFaults::great_read, crate::proofs::OwnFaults::small_read))]
 fn is_too_great(bytes: &[u8; Sheet::RECORD]) -> bool
     ensures { result ≡ is_too_great (decode [] bytes.now) }

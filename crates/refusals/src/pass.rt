@@ -5,6 +5,7 @@
 ghost use Rattle.std.specs.Prelude.{◌≡◌, ◌&&◌, ◌+◌, ◌/◌, ◌<◌, ◌≤◌, length, eqb};
 ghost use Rattle.rules.specs.Record.{record_bytes, decode, kind_in, sub_in, records};
 ghost use Rattle.rules.specs.Grammar as Grammar;
+ghost use Rattle.rules.specs.Refusals.{max_length};
 ghost use Rattle.refusals.specs.Due.{bare};
 ghost use Rattle.refusals.specs.States.{state_of, step_of};
 ghost use Rattle.refusals.specs.Pass.{is_second, or_second, record_step_by, first_fault_by, Ended, passed_of, EndSound};
@@ -83,7 +84,7 @@ fn newtypes_end(sheet: &[u8], end: usize, i: usize) -> usize
 // It is not compiled into its caller, whose other values would take the registers of a step.
 #[inline(never)]
 pub fn first_fault(sheet: &[u8], names: &[u8], table: &NameTable) -> Result<usize, Refused>
-    requires { length sheet.now ≤ 32768 }
+    requires { length sheet.now ≤ max_length }
     ensures { (passed_of result ≡ first_fault_by (is_second table.now) Grammar.start 0 (records sheet.now names.now)) × EndSound result sheet.now }
 {
     let mut due = Due::new();

@@ -1,5 +1,7 @@
-// A sheet and its names text, by their lengths. Its methods need the length of the sheet alone; `names_len` stands, as the type was public with both.
-ghost use Rattle.std.specs.Prelude.{◌≡◌, ◌/◌};
+// A sheet and its names text, by their lengths.
+ghost use Rattle.std.specs.Prelude.{◌≡◌, ◌%◌, ◌||◌, not, eqb, ltb};
+ghost use Rattle.rules.specs.Record.{record_size};
+ghost use Rattle.rules.specs.Refusals.{max_length, max_names_length};
 
 #[derive(Clone, Copy)]
 pub struct Sheet {
@@ -34,10 +36,17 @@ impl Sheet {
         Sheet { len, names_len }
     }
 
-    // How many whole records the sheet has.
-    pub fn records(self) -> usize
-        ensures { result ≡ self.len / 32 }
+    // Row 1: whether the sheet is no whole records, or longer than is accepted.
+    pub fn is_wrong_length(self) -> bool
+        ensures { result ≡ (not (eqb (self.len % record_size) 0) || ltb max_length self.len) }
     {
-        self.len / Sheet::RECORD
+        (self.len % Sheet::RECORD != 0) | (Sheet::MAX_LEN < self.len)
+    }
+
+    // Row 2: whether the names text is longer than is accepted.
+    pub fn is_long_names(self) -> bool
+        ensures { result ≡ ltb max_names_length self.names_len }
+    {
+        Sheet::MAX_NAMES_LEN < self.names_len
     }
 }

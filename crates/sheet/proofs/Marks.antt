@@ -88,11 +88,6 @@ module _ (marks : List ℕ) where
   unfolding starts_by continues_by
   start-continues b h = rw (eqb-true (get_or marks b 0) 3 h)
 
-  pub no_name : (name : List ℕ) → length name ≡ 0 → false ≡ valid_by marks name
-  unfolding valid_by
-  no_name [] h = refl
-  no_name (b ∷ bs) h = absurd (omega arith)
-
   pub bad-start : (name : List ℕ) (first : Bool) → first ≡ starts_by marks (get_or name 0 0) → first ≡ false → false ≡ valid_by marks name
   unfolding valid_by
   bad-start [] first h f = refl

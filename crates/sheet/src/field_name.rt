@@ -149,22 +149,3 @@ pub fn continue_by(marks: &[u8; 256], text: &[u8]) -> bool
     }
     each_continues(marks, text)
 }
-
-// Whether a bit may have the name, by the table.
-pub fn is_valid_by(marks: &[u8; 256], name: &[u8]) -> bool
-    ensures { result ≡ valid_by marks.now name.now }
-{
-    let [first, ..] = name else {
-        return false;
-    };
-    starts_by(marks, *first) && continue_by(marks, name)
-}
-
-// Whether the name starts with a-z or `_` and goes on with letters, digits and `_`.
-#[tactic(auto, using(crate::proofs::Marks::marks))]
-pub fn is_valid_field_name(name: &[u8]) -> bool
-    ensures { result ≡ valid_field_name name.now }
-{
-    let marks = name_marks();
-    is_valid_by(&marks, name)
-}

@@ -115,18 +115,6 @@ pub fn is_variant_item(kind: u8) -> bool
     (VARIANT <= kind) & (kind <= TOMBSTONE)
 }
 
-// Whether there is such a kind.
-pub fn is_known(kind: u8) -> bool
-    ensures { result ≡ Kind.known kind }
-{
-    ((DECLARATION <= kind) & (kind <= WILDCARD))
-        | ((HEAD <= kind) & (kind <= BACKING))
-        | ((ANNOTATION <= kind) & (kind <= BIT_NAME))
-        | is_type(kind)
-        | is_condition(kind)
-        | (kind == OPERAND)
-}
-
 // Whether a record of the kind and the sub has a name.
 #[tactic(auto, unfolding(rules::specs::Words::any_of))]
 pub fn is_named(kind: u8, sub: u8) -> bool
@@ -155,14 +143,14 @@ pub fn has_ordinal(kind: u8) -> bool
 }
 
 // Whether the kind's value is another number: a literal, or an array's size.
-pub fn has_literal(kind: u8) -> bool
+pub(crate) fn has_literal(kind: u8) -> bool
     ensures { result ≡ Kind.has_literal kind }
 {
     (kind == ARGUMENT) | (kind == FIXED_ARRAY) | (kind == OPERAND)
 }
 
 // Whether the kind has a span for its ordinal.
-pub fn has_ordinal_span(kind: u8) -> bool
+pub(crate) fn has_ordinal_span(kind: u8) -> bool
     ensures { result ≡ Kind.has_ordinal_span kind }
 {
     (kind == FIELD) | (kind == VARIANT)
@@ -170,7 +158,7 @@ pub fn has_ordinal_span(kind: u8) -> bool
 
 // How many subs the kind has: none, for a kind without a sub.
 #[tactic(auto, unfolding(rules::specs::Words::look_up))]
-pub fn sub_count(kind: u8) -> u8
+pub(crate) fn sub_count(kind: u8) -> u8
     ensures { result ≡ Kind.sub_count kind }
 {
     match kind {

@@ -10,10 +10,7 @@ mod names;
 mod record;
 pub mod subs;
 
-pub use field_name::{continue_by, is_valid_by, is_valid_field_name, name_marks, starts_by};
-pub use kinds::{
-    has_ordinal, is_condition, is_field_item, is_known, is_type, is_variant_item, part_count,
-    sub_count,
-};
-pub use names::{fits, has_name, name, name_len, name_offset};
-pub use record::{is_clean, kind, ordinal_span, records, span, sub, value};
+pub use field_name::{continue_by, name_marks, starts_by};
+pub use kinds::{has_ordinal, is_condition, is_field_item, is_type, is_variant_item, part_count};
+pub use names::{fits, has_name, name_len, name_offset};
+pub use record::{kind, ordinal_span, records, span, sub, value};

@@ -1,6 +1,6 @@
-// The name of record `i`: a part of the names text.
+// Where the name of record `i` lies in the names text. The name itself is read by `names`, for records that have one.
 ghost use Rattle.std.specs.Prelude.{◌≡◌, ◌<◌};
-ghost use Rattle.rules.specs.Record.{record_bytes, is_named_in, name_length, name_offset, fits_in, name_in};
+ghost use Rattle.rules.specs.Record.{record_bytes, is_named_in, name_length, name_offset, fits_in};
 
 use crate::bytes::{byte_at, word_at};
 use crate::kinds::{OPERAND, is_named};
@@ -38,17 +38,4 @@ pub fn fits(sheet: &[u8], names: &[u8], i: usize) -> bool
     ensures { result ≡ fits_in names.now (record_bytes sheet.now i) }
 {
     !has_name(sheet, i) || name_offset(sheet, i) + name_len(sheet, i) <= names.len()
-}
-
-// The name, as that part of the names text; empty for a record without a name, or whose part does not fit.
-#[tactic(auto, unfolding(rules::specs::Record::name_in))]
-pub fn name<'a>(sheet: &[u8], names: &'a [u8], i: usize) -> &'a [u8]
-    ensures { result.now ≡ name_in names.now (record_bytes sheet.now i) }
-{
-    if !has_name(sheet, i) {
-        return &[];
-    }
-    let start = name_offset(sheet, i);
-    let end = start + name_len(sheet, i);
-    names.get(start..end).unwrap_or(&[])
 }

@@ -1,6 +1,6 @@
 // The fields of record `i` of a sheet.
 ghost use Rattle.std.specs.Prelude.{◌≡◌, ◌/◌, length};
-ghost use Rattle.rules.specs.Record.{record_bytes, kind_in, sub_in, clean_in, span_in, ordinal_span_in, value_in};
+ghost use Rattle.rules.specs.Record.{record_size, record_bytes, kind_in, sub_in, span_in, ordinal_span_in, value_in};
 
 use crate::bytes::{byte_at, long_at, word_at};
 use crate::kinds;
@@ -8,9 +8,9 @@ use rules::{Sheet, Span};
 
 // How many whole records the sheet has.
 pub fn records(sheet: &[u8]) -> usize
-    ensures { result ≡ length sheet.now / 32 }
+    ensures { result ≡ length sheet.now / record_size }
 {
-    Sheet::new(sheet.len(), 0).records()
+    sheet.len() / Sheet::RECORD
 }
 
 // The kind.
@@ -30,13 +30,6 @@ pub fn sub(sheet: &[u8], i: usize) -> u8
     } else {
         byte_at(sheet, i, 1)
     }
-}
-
-// Whether byte 3 is 0.
-pub fn is_clean(sheet: &[u8], i: usize) -> bool
-    ensures { result ≡ clean_in (record_bytes sheet.now i) }
-{
-    byte_at(sheet, i, 3) == 0
 }
 
 // The span.
