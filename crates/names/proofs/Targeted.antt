@@ -40,7 +40,7 @@ module _ (table : List ℕ) (i place : ℕ) where
       go (no h) = rw (← target-out table i place (omega arith)) refl
 
   -- an entry of another part, or of another record
-  other-entry : (part j : ℕ) → (part ≡ target_part → j ≡ i → ⊥) → entry_of part (with_target table i place) j ≡ entry_of part table j
+  pub other-entry : (part j : ℕ) → (part ≡ target_part → j ≡ i → ⊥) → entry_of part (with_target table i place) j ≡ entry_of part table j
   unfolding entry_of
   other-entry part j n = go (dec_lt j 1024)
     where
@@ -52,7 +52,7 @@ module _ (table : List ℕ) (i place : ℕ) where
       go (no h) = rw (le-ltb j 1024 (omega arith)) refl
 
   -- the entry itself
-  own-entry : i < 1024 → 3072 + i < length table → entry_of target_part (with_target table i place) i ≡ place
+  pub own-entry : i < 1024 → 3072 + i < length table → entry_of target_part (with_target table i place) i ≡ place
   unfolding entry_of
   own-entry h l = rw (lt-ltb i 1024 h, ← target-in table i place h) (get_or-set_same table (3072 + i) place 0 l)
 

@@ -18,6 +18,7 @@ use Rattle.rules.specs.declared.answer.Refused.{Refused}
 use Rattle.std.specs.Prelude.{Result, Ok}
 use Rattle.refusals.specs.Pass.{is_second, first_fault_by, passed_of}
 use Rattle.refusals.specs.Turned.{endless_by, refusal_by}
+use Rattle.refusals.specs.Ends.{LeftBy}
 use Rattle.refusals.proofs.Filled.{pass-filled}
 
 abbrev in_turn : Option Fault → Bool → Bool → Option Fault
@@ -86,3 +87,9 @@ module _ (sheet names : List ℕ) where
       (table after : List ℕ) → table ≡ name_table sheet names → SameEnds (context_by table sheet) (context_by after sheet) →
       SameEnds (context_by (name_table sheet names) sheet) (context_by after sheet)
   ends_by_filled table after filled same = rw (← filled) same
+
+  -- and what is left of it
+  pub left_by_filled :
+      (verdict : Option Fault) (table after : List ℕ) → table ≡ name_table sheet names → LeftBy verdict sheet table after →
+      LeftBy verdict sheet (name_table sheet names) after
+  left_by_filled verdict table after filled left = rw (← filled) left

@@ -12,7 +12,7 @@ ghost use Rattle.rules.specs.Record.{is_of};
 ghost use Rattle.rules.specs.Context as Context;
 ghost use Rattle.rules.specs.Refusals.{leads_nowhere};
 ghost use Rattle.names.specs.View.{view_at, view_of, context_by};
-ghost use Rattle.names.specs.SameEnds.{SameEnds, Lasting};
+ghost use Rattle.names.specs.SameEnds.{Lasting};
 ghost use Rattle.refusals.specs.Pass.{Ended, verdict_of};
 ghost use Rattle.refusals.specs.Turned.{endless_by};
 ghost use Rattle.refusals.specs.Ends.{EndsAt, Kept};
@@ -38,7 +38,7 @@ fn shorten(sheet: &[u8], table: &mut NameTable, t: usize, end: usize)
             return;
         }
         // a place counts from 1, and the end is below 65535
-        table.set_target(at, (end + 1) as u16); // a place counts from 1
+        table.set_target(at, (end + 1) as u16);
         at = next;
     }
 }
@@ -47,7 +47,8 @@ fn shorten(sheet: &[u8], table: &mut NameTable, t: usize, end: usize)
 #[tactic(auto, using(crate::proofs::ChainEnds::end_found, crate::proofs::ChainEnds::end_told, crate::proofs::ChainEnds::kept_itself))]
 fn never_ends(sheet: &[u8], table: &mut NameTable, t: usize) -> bool
     requires { Lasting (context_by table.old sheet.now) × (t < 65535) }
-    ensures { (result ≡ Context.never_ends (context_by table.old sheet.now) (view_at sheet.now t)) × Kept sheet.now table.old table.new }
+    ensures told { result ≡ Context.never_ends (context_by table.old sheet.now) (view_at sheet.now t) }
+    ensures kept { Kept sheet.now table.old table.new }
 {
     let context = ValidationContext { sheet, table };
     let end = context.chain_end(t);
@@ -62,7 +63,8 @@ fn never_ends(sheet: &[u8], table: &mut NameTable, t: usize) -> bool
 #[tactic(auto, using(crate::proofs::ChainWalk::other_ends, crate::proofs::ChainWalk::last_ends, crate::proofs::ChainWalk::newtype_walked, crate::proofs::ChainEnds::kept_itself))]
 fn is_endless(sheet: &[u8], table: &mut NameTable, i: usize, n: usize) -> bool
     requires { Lasting (context_by table.old sheet.now) × (i < n) × (n ≤ 1024) }
-    ensures { (result ≡ (is_of 1 4 (view_at sheet.now i) && leads_nowhere (context_by table.old sheet.now) (view_of sheet.now (i + 1) n))) × Kept sheet.now table.old table.new }
+    ensures told { result ≡ (is_of 1 4 (view_at sheet.now i) && leads_nowhere (context_by table.old sheet.now) (view_of sheet.now (i + 1) n)) }
+    ensures kept { Kept sheet.now table.old table.new }
 {
     is_newtype(sheet, i) && i + 1 < n && never_ends(sheet, table, i + 1)
 }
@@ -70,7 +72,8 @@ fn is_endless(sheet: &[u8], table: &mut NameTable, i: usize, n: usize) -> bool
 // The first newtype whose chain never ends. The newtypes end at `end`.
 pub fn endless(sheet: &[u8], table: &mut NameTable, end: usize) -> Result<(), Refused>
     requires { (length sheet.now ≤ 32768) × Ended sheet.now end (length sheet.now / 32) × Lasting (context_by table.old sheet.now) }
-    ensures { (verdict_of result ≡ endless_by table.old sheet.now) × SameEnds (context_by table.old sheet.now) (context_by table.new sheet.now) }
+    ensures told { verdict_of result ≡ endless_by table.old sheet.now }
+    ensures kept { Kept sheet.now table.old table.new }
 {
     let n = sheet::records(sheet);
     for i in 0..end {

@@ -11,17 +11,20 @@ pub returns-then-is_endless : goal.returns-then-is_endless
 returns-then-is_endless c =
     let inv = c.loop-i.invariant in
     let found = c.is_endless.ensures in
-    let here = kept_nowhere _ _ _ c.loop-i.i c.records-n.result _ inv.0 found.0 in
-    (rw c.refused_at.ensures (endless_found _ _ _ _ _ _ inv.1 here (omega arith) c.if-is_endless.true), (kept_through _ _ _ _ inv.0 found.1).same)
+    let here = kept_nowhere _ _ _ c.loop-i.i c.records-n.result _ inv.0 found.told in
+    record {
+      told = rw c.refused_at.ensures (endless_found _ _ _ _ _ _ inv.1 here (omega arith) c.if-is_endless.true);
+      kept = kept_through _ _ _ _ inv.0 found.kept;
+    }
 
 pub loop-i-preserved : goal.loop-i-preserved
 loop-i-preserved c =
     let inv = c.loop-i.invariant in
     let found = c.is_endless.ensures in
-    let here = kept_nowhere _ _ _ c.loop-i.i c.records-n.result _ inv.0 found.0 in
-    (kept_through _ _ _ _ inv.0 found.1, endless_again _ _ _ _ _ _ inv.1 here (omega arith) c.if-is_endless.false)
+    let here = kept_nowhere _ _ _ c.loop-i.i c.records-n.result _ inv.0 found.told in
+    (kept_through _ _ _ _ inv.0 found.kept, endless_again _ _ _ _ _ _ inv.1 here (omega arith) c.if-is_endless.false)
 
 pub returns : goal.returns
 returns c =
     let inv = c.loop-i.invariant in
-    (past_end _ _ _ _ c.requires.1 _ _ c.records-n.ensures inv.1 c.loop-i-test.false, inv.0.same)
+    record { told = past_end _ _ _ _ c.requires.1 _ _ c.records-n.ensures inv.1 c.loop-i-test.false; kept = inv.0 }

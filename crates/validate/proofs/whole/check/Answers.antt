@@ -10,6 +10,6 @@ pub returns : goal.returns
 returns c =
     let told : refusal c.args.sheet.now c.args.names.now ≡ none = grind arith in
     let listed = c.check_declaration.ensures.state ∙ ap (push_found _) c.new-violations.ensures.state in
-    let answered = accepted_told _ _ _ _ _ _ told c.accept.ensures.1 listed in
-    let left = accepted_listed _ _ _ _ _ _ told c.accept.ensures.1 listed in
+    let answered = accepted_told _ _ _ _ _ _ told c.accept.ensures.ends listed in
+    let left = accepted_listed _ _ _ _ _ _ told c.accept.ensures.ends listed in
     grind arith
