@@ -4,14 +4,15 @@ use native.Mathlib.Decide.{dec_lt}
 use native.Mathlib.Omega.{arith}
 use native.Mathlib.Numerals.{add-one}
 use mathlib.Core.Path.{◌≡◌, refl, sym, ap, ◌∙◌}
-use mathlib.Core.Bool.{Bool, true, false, ◌&&◌}
-use mathlib.Core.List.{List}
+use mathlib.Core.Bool.{Bool, true, false, ◌&&◌, true≢false}
+use mathlib.Core.List.{List, [], ◌∷◌}
 use mathlib.Core.Option.{Option, some, none}
 use lib.ListN.{length}
 use Rattle.rules.specs.declared.span.Span.{Span}
-use Rattle.rules.specs.Record.{is_of}
+use Rattle.rules.specs.Record.{Rec, is_of}
 use Rattle.rules.specs.Context.{ValidationContext, never_ends}
 use Rattle.rules.specs.Refusals.{Fault, leads_nowhere, endless_chain}
+use Rattle.rules.proofs.Chains.{is_some}
 use Rattle.names.specs.View.{view_at, view_of, context_by}
 use Rattle.names.proofs.Views.{view-cons, view-none}
 use Rattle.refusals.specs.Pass.{Ended}
@@ -74,3 +75,15 @@ module _ (table sheet : List ℕ) where
   module _ (end n : ℕ) (e : Ended sheet end (length sheet / 32)) where
     pub past_end : (i : ℕ) (all : Option Fault) → n ≡ length sheet / 32 → endless_chain ctx i (view_of sheet i n) ≡ all → end ≤ i → none ≡ all
     past_end i all hn inv h = endless-rest n i n all (omega arith) inv (λ j a b. e.none j (omega arith) (omega arith))
+
+-- row 9 is told as row 9
+pub endless-number : (a : ValidationContext ℕ Span) (i : ℕ) (rs : List (Rec ℕ Span)) (f : Fault) → endless_chain a i rs ≡ some f → f.number ≡ 9
+unfolding endless_chain
+endless-number a i [] f e = absurd (true≢false (sym (ap is_some e)))
+endless-number a i (r ∷ rs) f e = go (is_of 1 4 r && leads_nowhere a rs) (endless-number a (suc i) rs f) e
+  where
+    go :
+        (b : Bool) → (endless_chain a (suc i) rs ≡ some f → f.number ≡ 9) →
+        elim b [ true ↦ some (record { number = 9; index = i }) | false ↦ endless_chain a (suc i) rs ] ≡ some f → f.number ≡ 9
+    go true ih e = sym (ap (λ o. elim o [ none ↦ 9 | some g ↦ g.number ]) e)
+    go false ih e = ih e

@@ -7,6 +7,7 @@ pub mod Bodies
 pub mod RecordBytes
 pub mod OwnFaults
 pub mod ChainWalk
+pub mod ShortTables
 pub mod ChainEnds
 pub mod Passes
 pub mod PlainRuns
