@@ -1,3 +1,4 @@
 pub mod Buffers
 pub mod Replayed
 pub mod Counts
+pub mod CheckAnswers

@@ -8,11 +8,11 @@ mod single;
 
 ghost use Rattle.std.specs.Prelude.{◌≡◌, ◌<◌};
 ghost use Rattle.recorded.specs.File.{number_of, is_magic};
-ghost use Rattle.recorded.specs.Answer.{is_answer};
+ghost use Rattle.recorded.specs.Answer.{is_index, is_answer};
 
 pub use buffer::VIOLATION;
 pub use replay::{BUFFERS, Case, LIST, same_buffers};
-use rules::{AnswerValues, Refusal};
+use rules::{AnswerValues, Refusal, Sheet, Violation};
 pub use single::is_single_field;
 
 // The greatest number of a refusal.
@@ -35,15 +35,33 @@ pub fn is_magic(first: u32, second: u32) -> bool
     first == u32::from_le_bytes(*b"case") && second == u32::from_le_bytes(*b"s 1\n")
 }
 
-// Whether a check can answer so, of any four numbers, as a file may have any: an accepted sheet has index 0 and no more errors than violations,
-// a refused one has neither.
+// Whether a refusal of that number can tell that index: by rows 1 and 2 it is 0, else a record's, or for an early end the count of the records.
+#[tactic(auto, unfolding(crate::specs::Answer::is_index))]
+fn is_index(number: u32, index: u32) -> bool
+    ensures { result ≡ is_index number index }
+{
+    let count = Sheet::MAX_RECORDS as u32;
+    if number <= Refusal::NamesLength as u32 {
+        index == 0
+    } else {
+        index < count || number == Refusal::OutOfOrder as u32 && index == count
+    }
+}
+
+// Whether a check can answer so, of any four numbers, as a file may have any: an accepted sheet has index 0, no more violations than a list can have and
+// no more errors than those, a refused one has an index and neither.
 #[tactic(auto, unfolding(crate::specs::Answer::is_answer))]
 pub fn is_answer(answer: AnswerValues) -> bool
     ensures { result ≡ is_answer answer.number answer.index answer.total answer.errors }
 {
     if answer.number == 0 {
-        answer.index == 0 && answer.errors <= answer.total
+        answer.index == 0
+            && answer.total as usize <= Violation::MOST
+            && answer.errors <= answer.total
     } else {
-        answer.number <= LAST_REFUSAL && answer.total == 0 && answer.errors == 0
+        answer.number <= LAST_REFUSAL
+            && is_index(answer.number, answer.index)
+            && answer.total == 0
+            && answer.errors == 0
     }
 }
