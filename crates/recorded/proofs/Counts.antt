@@ -1,5 +1,5 @@
 -- A count over a list that is made element by element, or that stands in bytes, is the count that a walk over the indices finds.
-use Prim.Native.Nat.{ℕ, zero, suc, ◌+◌, ◌*◌, ◌/◌, ◌≤◌, ◌<◌}
+use Prim.Native.Nat.{ℕ, zero, suc, ◌+◌, ◌*◌, ◌/◌, ◌<◌}
 use mathlib.Core.Path.{◌≡◌, refl, ap}
 use mathlib.Core.Bool.{Bool, true, false, cond, ◌&&◌}
 use mathlib.Core.List.{List, [], ◌∷◌, ◌++◌, map}
@@ -10,7 +10,7 @@ use lib.Dec.{eqb}
 use Rattle.std.specs.List.{filter, range_with_len}
 use Rattle.rules.specs.Words.{only_if, select}
 use Rattle.rules.specs.Record.{is_of, kind_in, sub_in, record_bytes, pieces, records, decode}
-use Rattle.recorded.specs.Replay.{buffer_lengths, records_of}
+use Rattle.recorded.specs.Replay.{records_of}
 
 -- one element more
 pub count_more :
@@ -26,16 +26,6 @@ count_more p (x ∷ xs) zero d h = one (p x)
 count_more p (x ∷ xs) (suc i) d h =
     let next : suc i + 1 ≡ suc (i + 1) = omega arith in
     rw next (simp (length-append, count_more p xs i d (omega arith)) (omega arith))
-
--- none of the buffers is longer than the longest
-pub length_fits : (total i : ℕ) → get_or (buffer_lengths total) i 0 ≤ 36893
-unfolding buffer_lengths
-length_fits total zero = omega arith
-length_fits total (suc zero) = omega arith
-length_fits total (suc (suc zero)) = omega arith
-length_fits total (suc (suc (suc zero))) = omega arith
-length_fits total (suc (suc (suc (suc zero)))) = omega arith
-length_fits total (suc (suc (suc (suc (suc i))))) = omega arith
 
 -- the records of a kind and a sub, by their indices
 module _ (kind sub : ℕ) (sheet : List ℕ) where

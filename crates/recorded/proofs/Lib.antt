@@ -1,4 +1,5 @@
 pub mod Buffers
 pub mod Replayed
 pub mod Counts
+pub mod Lengths
 pub mod CheckAnswers

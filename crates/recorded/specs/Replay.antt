@@ -6,8 +6,8 @@ use Rattle.rules.specs.Kind
 use Rattle.rules.specs.Sub
 use Rattle.rules.specs.Record.{records, is_of}
 use Rattle.rules.specs.Answer.{answer}
-use Rattle.rules.specs.Buffer.{buffer_after}
-use Rattle.recorded.specs.Answer.{same_values}
+use Rattle.rules.specs.Buffer.{violation_size, buffer_after}
+use Rattle.recorded.specs.Answer.{most_violations, same_values}
 use Rattle.recorded.specs.Buffer.{marks, recorded_after}
 
 -- the answer is the recorded one, and so is every byte of a buffer of n bytes
@@ -16,20 +16,23 @@ is_same sheet names told violations n =
     same_values told (answer sheet names)
     && same_bytes (recorded_after violations (marks n)) (buffer_after sheet names (marks n))
 
--- the most violations of a list
-abbrev most_violations : ℕ
-most_violations = 3072
+-- the length of the longest buffer: more than any list has
+abbrev pub longest : ℕ
+longest = violation_size * most_violations + 29
 
--- the lengths of five buffers for so many violations: none, some whole records too few, the next record cut, just enough, and more
--- than any list has
+-- the lengths of five buffers for so many violations: none, some whole records too few, the next record cut, just enough, and the longest
 unfoldable pub buffer_lengths : ℕ → List ℕ
 buffer_lengths total =
     let k : ℕ = min total most_violations in
-    0 ∷ (12 * (k / 2)) ∷ (12 * (k / 2) + 7) ∷ (12 * k) ∷ 36893 ∷ []
+    0 ∷ (violation_size * (k / 2)) ∷ (violation_size * (k / 2) + 7) ∷ (violation_size * k) ∷ longest ∷ []
 
 -- how many of the five are the same
 unfoldable pub same_buffers : List ℕ → List ℕ → AnswerValues → List ℕ → ℕ
 same_buffers sheet names told violations = length (select (is_same sheet names told violations) (buffer_lengths told.total))
+
+-- the list that the five are parts of, after the calls: all of it was filled for the last call, and is what that call left
+unfoldable pub list_after : List ℕ → List ℕ → List ℕ
+list_after sheet names = buffer_after sheet names (marks longest)
 
 -- how many records of a sheet are of that kind and sub
 unfoldable pub records_of : ℕ → ℕ → List ℕ → ℕ

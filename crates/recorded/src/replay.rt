@@ -1,7 +1,9 @@
 // The check, called again for a recorded case.
 ghost use Rattle.std.specs.Prelude.{◌≡◌, ◌≤◌, ◌<◌, length, get_or};
 ghost use Rattle.recorded.specs.Answer.{same_values};
-ghost use Rattle.recorded.specs.Replay.{is_same, buffer_lengths, same_buffers};
+ghost use Rattle.recorded.specs.Buffer.{marks};
+ghost use Rattle.recorded.specs.Replay.{is_same, buffer_lengths, same_buffers, list_after};
+ghost use Rattle.rules.specs.Buffer.{buffer_after};
 
 use crate::buffer::{fill, is_after};
 use rules::{AnswerValues, Violation};
@@ -9,8 +11,8 @@ use rules::{AnswerValues, Violation};
 // How many buffers the check is called with.
 pub const BUFFERS: usize = 5;
 
-// The length of the longest.
-pub const LIST: usize = 36893;
+// The length of the longest: more than any list has.
+pub const LIST: usize = Violation::SIZE * Violation::MOST + 29;
 
 // A recorded call of the check: what it was called with, its answer, and the violations of its list as the file has them.
 #[derive(Clone, Copy)]
@@ -24,7 +26,8 @@ pub struct Case<'a> {
 // Whether the check answers what was recorded and leaves this buffer so.
 #[tactic(auto, unfolding(crate::specs::Replay::is_same))]
 fn is_same(case: &Case, list: &mut [u8]) -> bool
-    ensures { result ≡ is_same case.now.sheet.now case.now.names.now case.now.answer case.now.violations.now (length list.old) }
+    ensures same { result ≡ is_same case.now.sheet.now case.now.names.now case.now.answer case.now.violations.now (length list.old) }
+    ensures left { list.new ≡ buffer_after case.now.sheet.now case.now.names.now (marks (length list.old)) }
 {
     fill(list);
     let answer = validate::vexil_check(case.sheet, case.names, list);
@@ -41,10 +44,12 @@ fn buffer_lengths(total: u32) -> [usize; BUFFERS]
     [0, half, half + 7, Violation::SIZE * most, LIST]
 }
 
-// How many of the five buffers are the same, each the start of a list with room for it. It is an array, since a slice would have to be asked to be so long.
-#[tactic(auto, using(crate::proofs::Counts::length_fits), unfolding(crate::specs::Replay::same_buffers, rules::specs::Words::select))]
+// How many of the five buffers are the same, each the start of a list with room for it. The list is then as the last call, whose buffer is all of it, leaves it.
+// It is an array, since a slice would have to be asked to be so long.
+#[tactic(auto, using(crate::proofs::Lengths::length_fits), unfolding(crate::specs::Replay::same_buffers, rules::specs::Words::select))]
 pub fn same_buffers(case: &Case, list: &mut [u8; LIST]) -> usize
-    ensures { result ≡ same_buffers case.now.sheet.now case.now.names.now case.now.answer case.now.violations.now }
+    ensures same { result ≡ same_buffers case.now.sheet.now case.now.names.now case.now.answer case.now.violations.now }
+    ensures left { list.new ≡ list_after case.now.sheet.now case.now.names.now }
 {
     let mut same = 0;
     // No `filter`, whose closure would lend a part of the list that it was lent itself: the prover does not cover that yet.
