@@ -21,11 +21,11 @@ length_fits total (suc (suc (suc (suc (suc i))))) = omega arith
 
 -- the last is the whole list, so that its call leaves nothing of what was there before
 pub last_left :
-    (sheet names list left : List ℕ) (total i : ℕ) → length list ≡ longest → i + 1 ≡ 5 →
+    (sheet names list : List ℕ) (total i : ℕ) (left : List ℕ) → length list ≡ longest → i + 1 ≡ 5 →
     left ≡ buffer_after sheet names (marks (length (take (get_or (buffer_lengths total) i 0) list))) →
     left ++ drop (get_or (buffer_lengths total) i 0) list ≡ list_after sheet names
 unfolding buffer_lengths list_after
-last_left sheet names list left total i size last e =
+last_left sheet names list total i left size last e =
     let index : i ≡ 4 = omega arith in
     let n : get_or (buffer_lengths total) i 0 ≡ longest = rw index refl in
     rw (e, n, drop_of_length-le list {i = longest} (omega arith), length-take-le longest list (omega arith)) (append-nil _)

@@ -40,11 +40,12 @@ pub fn is_magic(first: u32, second: u32) -> bool
 fn is_index(number: u32, index: u32) -> bool
     ensures { result ≡ is_index number index }
 {
-    let count = Sheet::MAX_RECORDS as u32;
-    if number <= Refusal::NamesLength as u32 {
+    let index = index as usize;
+    if number <= u32::from(Refusal::NamesLength) {
         index == 0
     } else {
-        index < count || number == Refusal::OutOfOrder as u32 && index == count
+        index < Sheet::MAX_RECORDS
+            || index == Sheet::MAX_RECORDS && number == u32::from(Refusal::OutOfOrder)
     }
 }
 

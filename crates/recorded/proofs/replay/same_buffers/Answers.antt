@@ -14,5 +14,5 @@ loop-len-preserved c =
     let len : length (take (get_or (buffer_lengths case.answer.total) i 0) c.loop-len.list) ≡ get_or (buffer_lengths case.answer.total) i 0
     = length-take-le _ _ (omega (arith, length_fits case.answer.total i)) in
     let more = count_more (is_same case.sheet.now case.names.now case.answer case.violations.now) c.buffer_lengths-len-items.result i 0 (omega arith) in
-    let last = last_left case.sheet.now case.names.now c.loop-len.list c.is_same.new.list case.answer.total i in
+    let last = last_left case.sheet.now case.names.now c.loop-len.list case.answer.total i in
     grind (arith, common_steps)
