@@ -8,7 +8,12 @@ use vexil_check::Report;
 #[test]
 fn the_runs_of_the_program() {
     let crates = Path::new(env!("CARGO_MANIFEST_DIR")).join("../../crates");
-    for run in ["vexil_check", "vexil_check_errors", "vexil_check_refused"] {
+    for run in [
+        "vexil_check",
+        "vexil_check_errors",
+        "vexil_check_refused",
+        "vexil_check_exchanged",
+    ] {
         let folder = crates.join(run);
         // A missing file is an empty one.
         let read = |name: &str| fs::read(folder.join("data").join(name)).unwrap_or_default();
