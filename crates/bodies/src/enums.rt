@@ -11,7 +11,7 @@ use crate::ordinal::OrdinalRules;
 use crate::seen::{ItemList, Seen};
 use crate::whole::WholeRecords;
 use diagnostic::Violations;
-use rules::{RecordRange, Violation};
+use rules::{RecordRange, Sheet, Violation};
 use sheet::{kinds, subs};
 
 // Adds what is wrong with the variants of the body: rules 31 and 32.
@@ -35,10 +35,10 @@ fn backing_max(sub: u8) -> u64
     ensures { result ≡ backing_max sub }
 {
     match sub {
-        subs::U8_BACKING => u64::from(u8::MAX),
-        subs::U16_BACKING => u64::from(u16::MAX),
-        subs::U32_BACKING => u64::from(u32::MAX),
-        subs::U64_BACKING => u64::MAX,
+        subs::U8_BACKING => Sheet::MAX_U8_BACKING,
+        subs::U16_BACKING => Sheet::MAX_U16_BACKING,
+        subs::U32_BACKING => Sheet::MAX_U32_BACKING,
+        subs::U64_BACKING => Sheet::MAX_U64_BACKING,
         _ => 0,
     }
 }

@@ -4,7 +4,8 @@ use Rattle.rules.specs.declared.span.Span.{Span}
 use Rattle.rules.specs.Words.{number_if, any_of, select}
 use Rattle.rules.specs.Kind
 use Rattle.rules.specs.Record.{Rec, decode, is, record_bytes, records}
-use Rattle.names.specs.NameTable.{max_records, column, is_named, id_in, declaration_in, import_in, target_at, target_in, code_of}
+use Rattle.rules.specs.Refusals.{max_records}
+use Rattle.names.specs.NameTable.{column, is_named, id_in, declaration_in, import_in, target_at, target_in, code_of}
 
 -- the records that the table is about: the first 1024
 unfoldable pub known : List ℕ → List ℕ → List (Rec (List ℕ) Span)

@@ -3,7 +3,7 @@ use Rattle.std.specs.Prelude.{ℕ, ◌+◌, ◌*◌, ◌≡◌, Bool, true, fals
 use Rattle.std.proofs.Math.Option.{Option, some, none}
 use Rattle.rules.specs.Record.{Rec}
 use Rattle.rules.specs.Context.{ValidationContext, Declared, behind, chain_end, never_ends}
-use Rattle.names.specs.NameTable.{max_records}
+use Rattle.rules.specs.Refusals.{max_records}
 use Rattle.names.specs.View.{target_part}
 
 module _ {N P : Type 0} where

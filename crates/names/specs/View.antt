@@ -6,7 +6,7 @@ use Rattle.rules.specs.declared.span.Span.{Span}
 use Rattle.rules.specs.Words.{within, number_if}
 use Rattle.rules.specs.Record.{Rec, record_bytes, kind_in, sub_in, clean_in, span_in, ordinal_span_in, value_in}
 use Rattle.rules.specs.Context.{ValidationContext, Declared}
-use Rattle.names.specs.NameTable.{max_records}
+use Rattle.rules.specs.Refusals.{max_records}
 
 -- record i of a sheet, named by its index
 unfoldable pub view_at : List ℕ → ℕ → Rec ℕ Span

@@ -1,7 +1,7 @@
 // The table of names: what the rules ask of the name of each record.
 ghost use Rattle.std.specs.Prelude.{◌≡◌, ◌+◌, ◌*◌, ◌<◌, ◌≤◌, true, not, eqb, [], ◌∷◌, ◌++◌, ℕ, length, get_or, set, take, replicate, ltb, IfSome};
 ghost use Rattle.rules.specs.Words.{number_if};
-ghost use Rattle.names.specs.NameTable.{max_records};
+ghost use Rattle.rules.specs.Refusals.{max_records};
 ghost use Rattle.names.specs.View.{entry_of, id_part, declaration_part, import_part, target_part, code_part, max_place, wildcard_of, declarations_of};
 ghost use Rattle.names.specs.Known.{index_at};
 ghost use Rattle.names.specs.Notes.{set_first, Silent};

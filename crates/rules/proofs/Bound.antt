@@ -16,7 +16,8 @@ use Rattle.rules.specs.Context.{ValidationContext, declared_as, context_of}
 use Rattle.rules.specs.Grammar.{starts_field_item, starts_item}
 use Rattle.rules.specs.Rule.{Found, found_if}
 use Rattle.rules.specs.Bodies.{list_violations, declaration_violations, used_ordinals, backing_max, slots, retired_ordinals, Scheme, field_scheme, enum_scheme, flags_scheme, union_scheme, is_member, body_items, found_all, member_violations, items_violations, field_violations, field_item_violations, field_list_violations, enum_violations, flags_violations, union_violations, newtype_violations, body_violations, violations_of}
-use Rattle.rules.specs.Answer.{found_in, full_list, is_accepted}
+use Rattle.rules.specs.Answer.{found_in, full_list, max_total, is_accepted}
+use Rattle.rules.specs.Buffer.{violation_size, max_list_size}
 use Rattle.rules.specs.Items.{sum_of}
 use Rattle.rules.proofs.Records.{length-records}
 use Rattle.rules.proofs.Joined.{length-select}
@@ -192,12 +193,16 @@ pub total-bound : (sheet names : List ℕ) → length (full_list sheet names) �
 unfolding full_list found_in
 total-bound sheet names = rw length-map (violations-bound (context_of (records sheet names)) (records sheet names))
 
--- a buffer of 36864 bytes holds the list of every sheet that is accepted
-pub list-fits : (sheet names : List ℕ) → is_accepted sheet names ≡ true → 12 * length (full_list sheet names) ≤ 36864
-list-fits sheet names h =
+-- so the total of an accepted sheet is at most 3,072,
+pub accepted-total : (sheet names : List ℕ) → is_accepted sheet names ≡ true → length (full_list sheet names) ≤ max_total
+accepted-total sheet names h =
     omega (
       arith,
       total-bound sheet names,
       length-records sheet names,
       accepted-length sheet names h,
     )
+
+-- and a buffer of 36,864 bytes holds its list
+pub list-fits : (sheet names : List ℕ) → is_accepted sheet names ≡ true → violation_size * length (full_list sheet names) ≤ max_list_size
+list-fits sheet names h = mul-le-mul_left violation_size (accepted-total sheet names h)

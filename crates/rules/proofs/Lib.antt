@@ -38,6 +38,9 @@ pub mod MistakeExamples
 pub mod Lengths
 pub mod FieldBound
 pub mod Bound
+-- What the code names of the definitions.
+pub mod Limits
+pub mod Classes
 -- Encoding, chains, and the bytes that are not used.
 pub mod Every
 pub mod Places

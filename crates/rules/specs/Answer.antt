@@ -1,5 +1,5 @@
 -- What a call answers: a refusal with its index, or the total and the errors of the full list.
-use Rattle.std.specs.Prelude.{ℕ, Bool, true, false, List, map, length, eqb}
+use Rattle.std.specs.Prelude.{ℕ, ◌*◌, Bool, true, false, List, map, length, eqb}
 use Rattle.std.proofs.Math.Option.{some, none}
 use Rattle.rules.specs.declared.span.Span.{Span}
 use Rattle.rules.specs.declared.violation.Violation.{Violation}
@@ -12,7 +12,7 @@ use Rattle.rules.specs.declared.answer.AnswerValues.{AnswerValues}
 use Rattle.rules.specs.Words.{select}
 use Rattle.rules.specs.Record.{records}
 use Rattle.rules.specs.Context.{context_of}
-use Rattle.rules.specs.Refusals.{refusal}
+use Rattle.rules.specs.Refusals.{max_records, refusal}
 use Rattle.rules.specs.Rule.{Found, violation, error}
 use Rattle.rules.specs.Bodies.{violations_of}
 
@@ -30,6 +30,10 @@ total_of vs = length vs
 
 abbrev pub errors_of : List Violation → ℕ
 errors_of vs = length (select (λ v. eqb v.severity error) vs)
+
+-- the greatest total: "at most 3 times the records"
+abbrev pub max_total : ℕ
+max_total = 3 * max_records
 
 -- the sheet and the names text are accepted
 abbrev pub is_accepted : List ℕ → List ℕ → Bool

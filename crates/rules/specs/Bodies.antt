@@ -32,6 +32,31 @@ used_ordinals = flat_map used_ordinal
 abbrev pub retired_ordinals : List Slot → List ℕ
 retired_ordinals = flat_map retired_ordinal
 
+-- rules 2, 31 and 35: the greatest ordinal of a field or a variant
+abbrev pub max_field_ordinal : ℕ
+max_field_ordinal = 65535
+
+-- rule 33: the greatest ordinal that a backing holds, U8 to U64,
+abbrev pub max_u8_backing : ℕ
+max_u8_backing = 255
+
+abbrev pub max_u16_backing : ℕ
+max_u16_backing = 65535
+
+abbrev pub max_u32_backing : ℕ
+max_u32_backing = 4294967295
+
+abbrev pub max_u64_backing : ℕ
+max_u64_backing = 18446744073709551615
+
+-- and the same by the backing's sub
+abbrev pub backing_max : ℕ → ℕ
+backing_max sub = look_up sub ((0, max_u8_backing) ∷ (1, max_u16_backing) ∷ (2, max_u32_backing) ∷ (3, max_u64_backing) ∷ [])
+
+-- rule 34: the greatest position of a bit
+abbrev pub max_bit : ℕ
+max_bit = 63
+
 -- What the ordinals and names of a body break: the greatest ordinal, and the rules for one over it, for one that is tombstoned anywhere
 -- in the list, else for one that an earlier item has, and for a name that an earlier item has
 pub record Scheme : Type 0 where
@@ -42,20 +67,16 @@ pub record Scheme : Type 0 where
   pub renamed : List ℕ
 
 abbrev pub field_scheme : Scheme
-field_scheme = record { greatest = 65535; over = 2 ∷ []; tombstoned = 3 ∷ []; repeated = 4 ∷ []; renamed = 5 ∷ [] }
+field_scheme = record { greatest = max_field_ordinal; over = 2 ∷ []; tombstoned = 3 ∷ []; repeated = 4 ∷ []; renamed = 5 ∷ [] }
 
 abbrev pub enum_scheme : Scheme
-enum_scheme = record { greatest = 65535; over = 31 ∷ []; tombstoned = 32 ∷ []; repeated = 32 ∷ []; renamed = [] }
+enum_scheme = record { greatest = max_field_ordinal; over = 31 ∷ []; tombstoned = 32 ∷ []; repeated = 32 ∷ []; renamed = [] }
 
 abbrev pub flags_scheme : Scheme
-flags_scheme = record { greatest = 63; over = 34 ∷ []; tombstoned = []; repeated = []; renamed = [] }
+flags_scheme = record { greatest = max_bit; over = 34 ∷ []; tombstoned = []; repeated = []; renamed = [] }
 
 abbrev pub union_scheme : Scheme
-union_scheme = record { greatest = 65535; over = 35 ∷ []; tombstoned = 36 ∷ []; repeated = 36 ∷ []; renamed = [] }
-
--- rule 33: the greatest ordinal that a backing holds, U8 to U64
-abbrev pub backing_max : ℕ → ℕ
-backing_max sub = look_up sub ((0, 255) ∷ (1, 65535) ∷ (2, 4294967295) ∷ (3, 18446744073709551615) ∷ [])
+union_scheme = record { greatest = max_field_ordinal; over = 35 ∷ []; tombstoned = 36 ∷ []; repeated = 36 ∷ []; renamed = [] }
 
 module _ {P : Type 0} where
   -- the rules are broken at the place if the test says so

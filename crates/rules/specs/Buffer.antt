@@ -6,11 +6,15 @@ use Rattle.rules.specs.declared.violation.Violation.{Violation}
 use Rattle.rules.specs.Words.{number, bytes}
 use Rattle.rules.specs.Record.{span_at}
 use Rattle.rules.specs.Refusals.{refusal}
-use Rattle.rules.specs.Answer.{full_list, total_of}
+use Rattle.rules.specs.Answer.{max_total, full_list, total_of}
 
 -- the bytes of a written violation
 abbrev pub violation_size : ℕ
 violation_size = 12
+
+-- the bytes that "always hold it", the list of every accepted sheet: 36,864
+abbrev pub max_list_size : ℕ
+max_list_size = violation_size * max_total
 
 -- "A violation is 12 bytes: class u16, severity byte (0 error, 1 warning), zero byte, offset u32, length u32"
 unfoldable pub encode : Violation → List ℕ

@@ -1,5 +1,5 @@
 -- The nine rows by which a sheet is turned down: "1, then 2; then the first record with a fault, lowest number first; 9 last".
-use Rattle.std.specs.Prelude.{ℕ, suc, ◌%◌, Bool, true, false, not, ◌&&◌, ◌||◌, List, [], ◌∷◌, ◌++◌, length, ltb, eqb}
+use Rattle.std.specs.Prelude.{ℕ, suc, ◌/◌, ◌%◌, Bool, true, false, not, ◌&&◌, ◌||◌, List, [], ◌∷◌, ◌++◌, length, ltb, eqb}
 use Rattle.std.proofs.Math.Option.{Option, some, none}
 use Rattle.rules.specs.Words.{only_if, first, any_of}
 use Rattle.rules.specs.Kind
@@ -22,6 +22,10 @@ max_names_length = 16384
 
 abbrev pub max_ordinal : ℕ
 max_ordinal = 4294967295
+
+-- the records of the longest sheet
+abbrev pub max_records : ℕ
+max_records = max_length / record_size
 
 module _ {N P : Type 0} where
   -- row 3: kind or sub unknown, or byte 3 not 0

@@ -24,6 +24,14 @@ impl Sheet {
     pub const MAX_DEPTH: usize = 64;
     // Rules 2, 31 and 35: the greatest ordinal of a field or a variant.
     pub const MAX_FIELD_ORDINAL: u64 = 65535;
+    // Rule 33: the greatest ordinal that a backing U8 holds,
+    pub const MAX_U8_BACKING: u64 = 255;
+    // U16,
+    pub const MAX_U16_BACKING: u64 = 65535;
+    // U32
+    pub const MAX_U32_BACKING: u64 = 4294967295;
+    // and U64.
+    pub const MAX_U64_BACKING: u64 = 18446744073709551615;
     // Rule 34: the greatest position of a bit.
     pub const MAX_BIT: u64 = 63;
     // Rule 19: the greatest limit.

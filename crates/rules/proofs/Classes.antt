@@ -1,0 +1,43 @@
+-- The severities and the classes that the code names are those of the definitions, each by its value.
+use mathlib.Core.Path.{◌≡◌, refl}
+use Rattle.rules.specs.declared.violation.TheConstants.Violation
+use Rattle.rules.specs.Rule
+
+severities : (Violation.ERROR ≡ Rule.error) × (Violation.WARNING ≡ Rule.warning)
+severities = (refl, refl)
+
+classes :
+    (Violation.FieldNameDuplicate ≡ Rule.FieldNameDuplicate)
+    × (Violation.OrdinalDuplicate ≡ Rule.OrdinalDuplicate)
+    × (Violation.OrdinalTooLarge ≡ Rule.OrdinalTooLarge)
+    × (Violation.OrdinalReusedAfterRemoved ≡ Rule.OrdinalReusedAfterRemoved)
+    × (Violation.UnknownType ≡ Rule.UnknownType)
+    × (Violation.ConfigTypeAsField ≡ Rule.ConfigTypeAsField)
+    × (Violation.NewtypeOverNewtype ≡ Rule.NewtypeOverNewtype)
+    × (Violation.NewtypeOverConfig ≡ Rule.NewtypeOverConfig)
+    × (Violation.InvalidMapKey ≡ Rule.InvalidMapKey)
+    × (Violation.GeometricInvalidElementType ≡ Rule.GeometricInvalidElementType)
+    × (Violation.EnumOrdinalDuplicate ≡ Rule.EnumOrdinalDuplicate)
+    × (Violation.EnumOrdinalTooLarge ≡ Rule.EnumOrdinalTooLarge)
+    × (Violation.EnumBackingTooNarrow ≡ Rule.EnumBackingTooNarrow)
+    × (Violation.FlagsBitTooHigh ≡ Rule.FlagsBitTooHigh)
+    × (Violation.BitsInlineEmpty ≡ Rule.BitsInlineEmpty)
+    × (Violation.InvalidBitName ≡ Rule.InvalidBitName)
+    × (Violation.UnionOrdinalDuplicate ≡ Rule.UnionOrdinalDuplicate)
+    × (Violation.UnionOrdinalTooLarge ≡ Rule.UnionOrdinalTooLarge)
+    × (Violation.DuplicateAnnotation ≡ Rule.DuplicateAnnotation)
+    × (Violation.DeprecatedMissingReason ≡ Rule.DeprecatedMissingReason)
+    × (Violation.LimitInvalidTarget ≡ Rule.LimitInvalidTarget)
+    × (Violation.LimitExceedsGlobal ≡ Rule.LimitExceedsGlobal)
+    × (Violation.LimitZero ≡ Rule.LimitZero)
+    × (Violation.VarintInvalidTarget ≡ Rule.VarintInvalidTarget)
+    × (Violation.ZigzagInvalidTarget ≡ Rule.ZigzagInvalidTarget)
+    × (Violation.VarintZigzagCombined ≡ Rule.VarintZigzagCombined)
+    × (Violation.DeltaInvalidTarget ≡ Rule.DeltaInvalidTarget)
+    × (Violation.WhereClauseTypeMismatch ≡ Rule.WhereClauseTypeMismatch)
+    × (Violation.WhereClauseRangeInvalid ≡ Rule.WhereClauseRangeInvalid)
+    × (Violation.WhereClauseLenOnNonCollection ≡ Rule.WhereClauseLenOnNonCollection)
+    × (Violation.WhereClauseConstRefNotFound ≡ Rule.WhereClauseConstRefNotFound)
+    × (Violation.WhereClauseOperatorInvalid ≡ Rule.WhereClauseOperatorInvalid)
+    × (Violation.InvariantUnsupported ≡ Rule.InvariantUnsupported)
+classes = (refl, refl, refl, refl, refl, refl, refl, refl, refl, refl, refl, refl, refl, refl, refl, refl, refl, refl, refl, refl, refl, refl, refl, refl, refl, refl, refl, refl, refl, refl, refl, refl, refl)
