@@ -1,5 +1,5 @@
 -- Pushes compose: a list is pushed one violation after another.
-use Rattle.std.proofs.Common.{◌≡◌, List, [], ◌∷◌, ◌++◌, sym, refl}
+use Rattle.std.proofs.Common.{◌≡◌, List, [], ◌∷◌, ◌++◌, refl}
 use Rattle.rules.specs.declared.violation.Violation.{Violation}
 use Rattle.diagnostic.specs.Push.{State, push_one, push_all}
 
@@ -8,7 +8,3 @@ pub push-append : (xs ys : List Violation) (s : State) → push_all (xs ++ ys) s
 unfolding push_all
 push-append [] ys s = refl
 push-append (x ∷ xs) ys s = push-append xs ys (push_one x s)
-
--- two states in a row, each what a list leaves of the one before it; docs/PROOFS.md names it, and no proof does
-pub push-then : (xs ys : List Violation) (s t u : State) → t ≡ push_all xs s → u ≡ push_all ys t → u ≡ push_all (xs ++ ys) s
-push-then xs ys s t u e f = rw (f, e) (sym (push-append xs ys s))

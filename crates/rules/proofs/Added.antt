@@ -33,16 +33,19 @@ or-more : (d b c : Bool) → (b || c) ≡ true → (b || (d || c)) ≡ true
 or-more true b c e = or-true b
 or-more false b c e = e
 
+or-both : (a b c d : Bool) → (a ≡ true → b ≡ true) → (c ≡ true → d ≡ true) → (a || c) ≡ true → (b || d) ≡ true
+or-both true b c d h k e = rw (h refl) refl
+or-both false b c d h k e = rw (k e) (or-true b)
+
 module _ {A : Type 0} where
-  -- a test that related elements pass alike is still passed where elements were added
-  added-any :
+  -- a test that is still passed by what is related is still passed where elements were added
+  pub added-any :
       {R : A → A → Type 0} {xs ys : List A} (p : A → Bool) →
-      ((a b : A) → R a b → p a ≡ p b) → Added R xs ys → any_of p xs ≡ true → any_of p ys ≡ true
+      ((a b : A) → R a b → p a ≡ true → p b ≡ true) → Added R xs ys → any_of p xs ≡ true → any_of p ys ≡ true
   unfolding any_of
-  added-any p alike added-nil e = e
-  added-any p alike (keep {a} {b} {xs} {ys} r m) e =
-      or-within (p b) false (any_of p xs) false (any_of p ys) (added-any p alike m) (rw (← alike a b r) e)
-  added-any p alike (new {b} {xs} {ys} m) e = or-more (p b) false (any_of p ys) (added-any p alike m e)
+  added-any p still added-nil e = e
+  added-any p still (keep {a} {b} {xs} {ys} r m) e = or-both (p a) (p b) (any_of p xs) (any_of p ys) (still a b r) (added-any p still m) e
+  added-any p still (new {b} {xs} {ys} m) e = or-more (p b) false (any_of p ys) (added-any p still m e)
 
 module _ {A B : Type 0} {R : A → A → Type 0} {S : B → B → Type 0} (f : A → B) (keeps : (a b : A) → R a b → S (f a) (f b)) where
   pub added-map : {xs ys : List A} → Added R xs ys → Added S (map f xs) (map f ys)
@@ -63,7 +66,7 @@ module _ {N P : Type 0} {R : Item (Rec N P) → Item (Rec N P) → Type 0} (head
       Added R its its' → any_of p (flat_map f (slots its)) ≡ true → any_of p (flat_map f (slots its')) ≡ true
   added-slots f p {its} {its'} m e =
       any-slots f p its'
-      ∙ added-any (λ it. any_of (λ slot. any_of p (f slot)) (slot_of it)) (λ a b r. rw (heads a b r)) m (sym (any-slots f p its) ∙ e)
+      ∙ added-any (λ it. any_of (λ slot. any_of p (f slot)) (slot_of it)) (λ a b r t. rw (heads a b r) at t) m (sym (any-slots f p its) ∙ e)
 
   module _ (ctx : ValidationContext N P) where
     grown-both :

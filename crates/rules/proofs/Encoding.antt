@@ -1,6 +1,6 @@
 -- A number is the sum of its bytes, so what 12 bytes of a buffer say is the violation that was written there.
 use Prim.Native.Nat.{ℕ, zero, suc, ◌+◌, ◌*◌, ◌^◌, ◌/◌, ◌<◌}
-use native.Mathlib.Nat.{pow-suc, mod-add-div, mod-lt, div-lt_iff_lt-mul, one-le-pow, min-le_left, min-le_right}
+use native.Mathlib.Nat.{pow-suc, mod-add-div, div-lt_iff_lt-mul, one-le-pow, min-le_left, min-le_right}
 use native.Mathlib.Omega.{arith}
 use mathlib.Core.Path.{◌≡◌, refl, ap, ap₂, sym, ◌∙◌}
 use mathlib.Core.Bool.{Bool, true, false, ◌&&◌}
@@ -20,8 +20,7 @@ use Rattle.rules.specs.Rule.{Found, RuleRow, rules, rule_row, violation}
 use Rattle.rules.specs.Answer.{found_in, full_list}
 use Rattle.rules.specs.Buffer.{encode, decode_violation, decode_list, written_of, written, violation_size}
 use Rattle.rules.proofs.Joined.{length-flat_map}
-use Rattle.rules.proofs.Every.{Every, every-nil, every-cons, every_one, every_append, every_take, every_drop, every-get_d}
-use Rattle.rules.proofs.Every.{every_map, every-flat_map}
+use Rattle.rules.proofs.Every.{Every, every-nil, every-cons, every_take, every_drop, every-get_d, every_map}
 use Rattle.rules.proofs.Places.{Placed, At, violation-places}
 
 -- a violation whose numbers fit their bytes
@@ -65,18 +64,6 @@ decode-encoded rest (every-cons {x = v} {xs = vs} h hs) =
     (ap₂ ◌∷◌ (decode-encode v (flat_map encode vs ++ rest) h)
     (rw (drop_at (encode v) (flat_map encode vs ++ rest) violation_size (length-encode v)) (decode-encoded rest hs)))
 
-bytes_below : (n x : ℕ) → Every (λ b. b < 256) (bytes n x)
-unfolding bytes
-bytes_below zero x = every-nil
-bytes_below (suc n) x = every-cons (mod-lt x (omega arith)) (bytes_below n (x / 256))
-
-encode-below : (v : Violation) → Encodable v → Every (λ b. b < 256) (encode v)
-unfolding encode
-encode-below v h =
-    let zero-byte : 0 < 256 = omega arith in
-    let front = every_append (bytes_below 2 v.class) (every-cons h.severity (every_one zero-byte)) in
-    every_append (every_append front (bytes_below 4 v.span.offset)) (bytes_below 4 v.span.len)
-
 module _ (vs : List Violation) (old : List ℕ) where
   -- how many of the violations the buffer holds
   abbrev pub written_count : ℕ
@@ -95,13 +82,7 @@ module _ (vs : List Violation) (old : List ℕ) where
       ap (λ (n : ℕ). decode_list n (written vs old)) (sym length_taken)
       ∙ decode-encoded (drop (violation_size * written_count) old) (every_take written_count h)
 
-  -- the buffer holds bytes as before (docs/PORT.md names it, and no proof does),
-  pub written_below : Every Encodable vs → Every (λ b. b < 256) old → Every (λ b. b < 256) (written vs old)
-  unfolding written
-  written_below h g =
-      every_append (every-flat_map encode encode-below (every_take written_count h)) (every_drop (violation_size * written_count) g)
-
-  -- keeps its length
+  -- the buffer keeps its length
   pub length-written : length (written vs old) ≡ length old
   unfolding written
   length-written =

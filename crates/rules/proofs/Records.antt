@@ -12,15 +12,6 @@ use Rattle.rules.specs.declared.span.Span.{Span}
 use Rattle.rules.specs.Words.{number}
 use Rattle.rules.specs.Record.{Rec, decode, number_at, pieces, record_bytes, records}
 
--- what lies within the first m elements is the same with the rest cut off
-pub part-of-front : {A : Type 0} (j n m : ℕ) (l : List A) → j + n ≤ m → take n (drop j (take m l)) ≡ take n (drop j l)
-part-of-front j n m [] h = simp take-nil
-part-of-front zero zero m (x ∷ l) h = refl
-part-of-front zero (suc n) zero (x ∷ l) h = absurd (omega arith)
-part-of-front zero (suc n) (suc m) (x ∷ l) h = ap (x ∷◌) (part-of-front 0 n m l (omega arith))
-part-of-front (suc j) n zero (x ∷ l) h = absurd (omega arith)
-part-of-front (suc j) n (suc m) (x ∷ l) h = part-of-front j n m l (omega arith)
-
 -- a number of no bytes is 0
 number-none : (n : ℕ) → number (take n []) ≡ 0
 unfolding number
@@ -35,11 +26,7 @@ number-first n (x ∷ l) = refl
 pub number_at-first : (at n : ℕ) (l : List ℕ) → number_at at (suc n) l ≡ get_or l at 0 + 256 * number_at (at + 1) n l
 number_at-first at n l = rw (number-first n (drop at l), drop-drop 1 at l, get_or-drop at l 0 0, add-zero)
 
--- a number within record i stands 32 * i bytes further in the sheet; docs/PROOFS.md names it, and no proof does
-pub number-of-record : (j n i : ℕ) (sheet : List ℕ) → j + n ≤ 32 → number_at j n (record_bytes sheet i) ≡ number_at (32 * i + j) n sheet
-number-of-record j n i sheet h = rw (part-of-front j n 32 (drop (32 * i) sheet) h, drop-drop j (32 * i) sheet)
-
--- and so does a byte
+-- a byte within record i stands 32 * i bytes further in the sheet
 pub byte-of-record : (j i : ℕ) (sheet : List ℕ) (d : ℕ) → j < 32 → get_or (record_bytes sheet i) j d ≡ get_or sheet (32 * i + j) d
 byte-of-record j i sheet d h = rw (get_or-take 32 (drop (32 * i) sheet) j d h, get_or-drop (32 * i) sheet j d)
 

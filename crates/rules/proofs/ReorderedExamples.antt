@@ -18,11 +18,7 @@ use Rattle.rules.specs.Table.{rec}
 use Rattle.rules.proofs.Computed.{computed}
 use Rattle.rules.proofs.Lists.{all_of}
 use Rattle.rules.proofs.Reordered.{moved-all_of}
-use Rattle.rules.proofs.SmallSheets.{abcd, head_of, u8, field, field_tombstone, variant, tombstone, backing}
-
--- the names text "..ba"
-abbrev ba : List ℕ
-ba = 46 ∷ 46 ∷ 98 ∷ 97 ∷ []
+use Rattle.rules.proofs.SmallSheets.{abcd, ba, head_of, u8, field, field_tombstone, variant, tombstone, backing}
 
 -- the two sheets are accepted, each with its names text, and are the same but for the order of items
 pub record Reordering (sheet sheet' : List (List ℕ)) (names names' : List ℕ) : Type 0 where

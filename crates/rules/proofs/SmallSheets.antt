@@ -1,4 +1,4 @@
--- Parts of small sheets, for examples that are computed: records with the names text "abcd", by their label t, as in the table.
+-- Parts of small sheets, for examples that are computed: records with the names text "abcd" or "..ba", by their label t, as in the table.
 use Prim.Native.Nat.{ℕ, ◌+◌}
 use mathlib.Core.List.{List, [], ◌∷◌, ◌++◌}
 use Rattle.rules.specs.Kind
@@ -7,6 +7,10 @@ use Rattle.rules.specs.Table.{rec}
 
 abbrev pub abcd : List ℕ
 abcd = 97 ∷ 98 ∷ 99 ∷ 100 ∷ []
+
+-- the names text "..ba"
+abbrev pub ba : List ℕ
+ba = 46 ∷ 46 ∷ 98 ∷ 97 ∷ []
 
 abbrev pub head_of : ℕ → List ℕ
 head_of sub = rec 1 Kind.Head sub 0 0 0

@@ -2,6 +2,7 @@
 -- rules' theorems say of those definitions, and of the full list, holds of the four numbers and of the violations that the buffer says.
 use Prim.Native.Nat.{ℕ, ◌+◌, ◌*◌, ◌/◌, ◌≤◌}
 use native.Mathlib.Decide.{ℕ_discrete}
+use native.Mathlib.Nat.{le_trans}
 use native.Mathlib.Omega.{arith}
 use mathlib.Core.Path.{◌≡◌, refl, sym, ap, ◌∙◌}
 use mathlib.Core.Bool.{true, true≢false}
@@ -15,7 +16,7 @@ use Rattle.rules.specs.Record.{record_size, records}
 use Rattle.rules.specs.Refusals.{Fault, refusal}
 use Rattle.rules.specs.Rule.{OrdinalDuplicate}
 use Rattle.rules.specs.Answer.{full_list, total_of, errors_of, is_accepted, answer}
-use Rattle.rules.specs.Buffer.{violation_size, encode, decode_list, written, buffer_after}
+use Rattle.rules.specs.Buffer.{violation_size, max_list_size, encode, decode_list, written, buffer_after}
 use Rattle.rules.specs.Items.{SameButOrder, SameButAdded, fields_in, distinct_untombstoned, occurrences, is_like, is_in_class}
 use Rattle.rules.proofs.Encoding.{length-written, drop-written, decode-written, full-list-encodable}
 use Rattle.rules.proofs.Bound.{list-fits}
@@ -139,19 +140,23 @@ module _ (sheet names old : List ℕ) (r : AnswerValues) (exit : List ℕ) (call
   pub first-ring-told : {index : ℕ} → r.number ≡ 9 → EndlessNewtype (records sheet names) index → r.index ≤ index
   first-ring-told h x = refusal-first-ring sheet names (refused-by (λ e. omega arith)) h x
 
-  -- Demand 3, with a buffer of 36,864 bytes or more: it says the full list,
-  pub list-decoded : IsBytes sheet → r.number ≡ 0 → 36864 ≤ length old → decode_list r.total exit ≡ full_list sheet names
+  -- Demand 3, with a buffer that holds the total: it says the full list,
+  pub list-decoded : IsBytes sheet → r.number ≡ 0 → violation_size * r.total ≤ length old → decode_list r.total exit ≡ full_list sheet names
   list-decoded bytes h room =
       let total : r.total ≡ length (full_list sheet names) = full-total h in
-      let all : written_by r old ≡ length (full_list sheet names) = omega (arith, list-fits sheet names (zero-accepted h)) in
+      let all : written_by r old ≡ length (full_list sheet names) = omega arith in
       rw total (rw (all, take-length) at (written-decoded bytes h))
 
   -- and the sheet's fields are as many as its distinct untombstoned ordinals, counted per field list and summed, and the violations of
-  -- OrdinalDuplicate and OrdinalReusedAfterRemoved that the buffer says
-  pub counted-decoded : IsBytes sheet → r.number ≡ 0 → 36864 ≤ length old
+  -- OrdinalDuplicate and OrdinalReusedAfterRemoved that the buffer says.
+  pub counted-decoded : IsBytes sheet → r.number ≡ 0 → violation_size * r.total ≤ length old
       → fields_in (records sheet names)
       ≡ distinct_untombstoned (records sheet names) + occurrences (is_in_class OrdinalDuplicate) (decode_list r.total exit)
   counted-decoded bytes h room = rw (list-decoded bytes h room) (counted sheet names (zero-accepted h))
+
+  -- A buffer of 36,864 bytes or more always holds the total
+  pub total-held : r.number ≡ 0 → max_list_size ≤ length old → violation_size * r.total ≤ length old
+  total-held h room = rw (full-total h) (le_trans (list-fits sheet names (zero-accepted h)) room)
 
 -- Demand 3, items reordered: the sheet is accepted again, if the names text is unchanged
 pub reordered-again : (sheet sheet' names old old' : List ℕ) (r r' : AnswerValues) (exit exit' : List ℕ)
@@ -165,7 +170,7 @@ reordered-again sheet sheet' names old old' r r' exit exit' call call' lengths s
 module _ (sheet names old sheet' names' old' : List ℕ) (r r' : AnswerValues) (exit exit' : List ℕ)
     (call : Answered sheet names old r exit) (call' : Answered sheet' names' old' r' exit')
     (bytes : IsBytes sheet) (bytes' : IsBytes sheet') (h : r.number ≡ 0) (h' : r'.number ≡ 0)
-    (room : 36864 ≤ length old) (room' : 36864 ≤ length old') where
+    (room : violation_size * r.total ≤ length old) (room' : violation_size * r'.total ≤ length old') where
   -- and whenever it is accepted, each class and severity occurs exactly as often
   pub reordered-decoded : SameButOrder (records sheet names) (records sheet' names') → (class severity : ℕ)
       → occurrences (is_like class severity) (decode_list r.total exit) ≡ occurrences (is_like class severity) (decode_list r'.total exit')
