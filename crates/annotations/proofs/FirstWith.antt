@@ -45,7 +45,7 @@ module _ (table sheet : List ℕ) (word e : ℕ) (from : 1 ≤ word) (to : word 
       by false t = rw (annotations-other sheet i e h t, t)
 
   -- those before the first do not have it
-  pub none-before :
+  none-before :
       (n i j : ℕ) → i + n ≡ j → j ≤ e → ((k : ℕ) → i ≤ k → k < j → has_word k ≡ false) → first i ≡ first j
   unfolding first_with
   none-before zero i j h l none = let same : i ≡ j = omega arith in rw same

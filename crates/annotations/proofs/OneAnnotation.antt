@@ -33,7 +33,7 @@ module _ (table sheet : List ℕ) (i e a z : ℕ) where
   at_arguments Reason = []
   at_arguments Blank = []
 
-  pub by-word :
+  by-word :
       (w : Word) → word_of (entry_of code_part table i) ≡ Some w →
       all ≡ target_violations w (view_of sheet a z) (view_at sheet i).place ++ at_arguments w
   unfolding annotation_violations annotation_at context_by entry_of view_at

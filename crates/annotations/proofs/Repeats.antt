@@ -22,7 +22,7 @@ use Rattle.types.proofs.Left.{Leaves, leaves_rest, leaves_none}
 
 module _ (sheet : List ℕ) (a : ℕ) where
   -- the annotations up to the record after record i: record i, if it is one, and those up to it
-  pub earlier-next :
+  earlier-next :
       (i : ℕ) → a ≤ i →
       earlier sheet a (i + 1) ≡ only_if (is Kind.Annotation (view_at sheet i)) (i ∷ []) ++ earlier sheet a i
   unfolding earlier_of
@@ -31,7 +31,7 @@ module _ (sheet : List ℕ) (a : ℕ) where
       let last : a + (i - a) ≡ i = omega arith in
       rw (more, last)
 
-  pub earlier-none : (i : ℕ) → i ≤ a → earlier sheet a i ≡ []
+  earlier-none : (i : ℕ) → i ≤ a → earlier sheet a i ≡ []
   unfolding earlier_of
   earlier-none i h =
       let none : i - a ≡ 0 = omega arith in

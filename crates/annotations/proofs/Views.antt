@@ -41,17 +41,17 @@ module _ (sheet : List ℕ) (i e : ℕ) where
   annotations-none h = rw (view-none sheet i e h)
 
   -- the arguments from a record on
-  pub arguments-next :
+  arguments-next :
       i < e → is Kind.Annotation (view_at sheet i) ≡ false →
       arguments_from sheet i e ≡ view_at sheet i ∷ arguments_from sheet (i + 1) e
   unfolding front arguments_from
   arguments-next h t = rw (view-cons sheet i e h, t, front)
 
-  pub arguments-stop : i < e → is Kind.Annotation (view_at sheet i) ≡ true → arguments_from sheet i e ≡ []
+  arguments-stop : i < e → is Kind.Annotation (view_at sheet i) ≡ true → arguments_from sheet i e ≡ []
   unfolding front arguments_from
   arguments-stop h t = rw (view-cons sheet i e h, t, front)
 
-  pub arguments-none : e ≤ i → arguments_from sheet i e ≡ []
+  arguments-none : e ≤ i → arguments_from sheet i e ≡ []
   unfolding front arguments_from
   arguments-none h = rw (view-none sheet i e h)
 

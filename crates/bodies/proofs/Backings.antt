@@ -123,7 +123,7 @@ flat_map-select p f (x ∷ xs) = go (p x) (flat_map-select p f xs)
     go false later = later
 
 -- the rule of a whole enum
-pub backings-all : {N P : Type 0} (ctx : ValidationContext N P) (body : List (Rec N P)) → backing_violations ctx body ≡ backings_from body body
+backings-all : {N P : Type 0} (ctx : ValidationContext N P) (body : List (Rec N P)) → backing_violations ctx body ≡ backings_from body body
 unfolding narrow_found
 backings-all ctx body = flat_map-select (is Kind.Backing) _ body
 

@@ -16,7 +16,7 @@ use Rattle.bodies.proofs.Narrow.{narrow-kept, narrow-out}
 use Rattle.bodies.proofs.Turns.{kind-is, kind-not}
 
 -- the values of the records of a kind, after one more and after none
-pub values-member :
+values-member :
     (sheet : List ℕ) (kind i e : ℕ) → i < e → is kind (view_at sheet i) ≡ true →
     values_of kind (view_of sheet i e) ≡ value_in (record_bytes sheet i) ∷ values_of kind (view_of sheet (i + 1) e)
 unfolding values_of select view_at

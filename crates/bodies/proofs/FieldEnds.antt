@@ -27,7 +27,7 @@ module _ (p : Rec ℕ Span → Bool) (sheet : List ℕ) (a : ℕ) where
   unfolding AllIn
   all_in q e implies all = λ j l lt. implies (view_at sheet j) (all j l lt)
 
-  pub all-on : (m e : ℕ) → AllIn p sheet a m → AllIn p sheet m e → AllIn p sheet a e
+  all-on : (m e : ℕ) → AllIn p sheet a m → AllIn p sheet m e → AllIn p sheet a e
   unfolding AllIn
   all-on m e front back = λ j l lt. by j l lt (ltb j m) refl
     where
@@ -43,11 +43,11 @@ optional-in t h = rw (eqb-true t.kind Kind.Optional h)
 
 -- optionals are of the type, and so the type ends where it does from their end on
 module _ (sheet : List ℕ) (a e behind end : ℕ) (h : a ≤ e) (optionals : RunTo (is Kind.Optional) sheet a e behind) (type : RunTo in_type sheet behind e end) where
-  pub type-behind : RunTo in_type sheet a e end
+  type-behind : RunTo in_type sheet a e end
   type-behind =
       run_on in_type sheet a e behind end (optionals.2 h) optionals.1 (all_in in_type sheet a (is Kind.Optional) behind optional-in optionals.3) type
 
-  pub optionals-to : OptionalsTo sheet a end behind
+  optionals-to : OptionalsTo sheet a end behind
   unfolding OptionalsTo
   optionals-to = (optionals.2 h, type.2 optionals.1, optionals.3)
 

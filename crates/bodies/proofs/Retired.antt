@@ -34,7 +34,7 @@ module _
     values-cons r rs true t = rw (t, select)
     values-cons r rs false t = rw (t, select)
 
-    pub retired-values : (rs : List (Rec ℕ Span)) → retired_ordinals (slots (items start rs)) ≡ values_of tomb rs
+    retired-values : (rs : List (Rec ℕ Span)) → retired_ordinals (slots (items start rs)) ≡ values_of tomb rs
     unfolding items flat_map values_of select
     retired-values [] = refl
     retired-values (r ∷ rs) = go (retired-values rs) (start r) refl

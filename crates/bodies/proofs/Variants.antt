@@ -136,7 +136,7 @@ module _
       pub meets_variant : IsItem seen.list i
       meets_variant = rw k.list (h, test, has-ordinal kind 14 (kind_in (record_bytes sheet i)) hk eq variant-has)
 
-      pub variants-variant :
+      variants-variant :
           (seen' : Seen) (now' : Violations) (m : Meeting) → seen'.list ≡ seen.list →
           m.tombstoned ≡ tombstoned_in seen.list (value_in (record_bytes (sheet_of seen.list) i)) →
           m.met ≡ met_before seen.list i (value_in (record_bytes (sheet_of seen.list) i)) → KnownBefore seen' (i + 1) →

@@ -81,7 +81,7 @@ module _ (ctx : ValidationContext ℕ Span) (takes : Literals) (sheet : List ℕ
       (e : kind ≡ 60) (sub : ℕ) (hs : sub ≡ sub_in (record_bytes sheet i)) (new : Violations) (same : new.list.ghost_name ≡ old.list.ghost_name)
     where
       -- a constant
-      pub operand_constant :
+      operand_constant :
           sub ≡ 5 → (known : Bool) → known ≡ is_known_const ctx i →
           state_of new ≡ push_if (not known) (record { class = 66; severity = 0; span = span_in (record_bytes sheet i) }) (state_of old) →
           Adds old new (operand_violations ctx takes (view_at sheet i))

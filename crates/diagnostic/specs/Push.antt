@@ -19,7 +19,7 @@ stored v index list =
       | false ↦ list
     ]
 
--- the counts with one violation more, of that severity; they wrap
+-- the counts with one violation more, of that severity; they wrap at 2^32, which the total of no accepted sheet comes near
 unfoldable pub counted : ℕ → Counts → Counts
 counted severity counts = record {
   total = (counts.total + 1) % 2 ^ 32;

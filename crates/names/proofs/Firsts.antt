@@ -59,7 +59,7 @@ module _ (sheet names : List ℕ) where
         at (place-passes (same_name (at i)) (at i) rs (id_at i) (first-place i h named)).1
 
     -- no record before it has the name
-    pub id-least : (j : ℕ) → j < known_count sheet → same_name (at i) (at j) ≡ true → id_at i ≤ j
+    id-least : (j : ℕ) → j < known_count sheet → same_name (at i) (at j) ≡ true → id_at i ≤ j
     id-least j l e = go (dec_lt j (id_at i))
       where
         go : Dec (j < id_at i) → id_at i ≤ j

@@ -31,7 +31,7 @@ module _ (sheet names : List ℕ) where
   bucket_at i = bucket_of (at i).name
 
   -- a first record with the name of record i is that of its id
-  pub lead-found : (b i k : ℕ) → i < known_count sheet → is_keyed (at i) ≡ true → Lead sheet names b k → same_name (at i) (at k) ≡ true → k ≡ id i
+  lead-found : (b i k : ℕ) → i < known_count sheet → is_keyed (at i) ≡ true → Lead sheet names b k → same_name (at i) (at k) ≡ true → k ≡ id i
   lead-found b i k h named lead same = sym (id-shared sheet names i k h lead.known-record named same ∙ lead.first)
 
   module _ (i : ℕ) (h : i < known_count sheet) (named : is_keyed (at i) ≡ true) where
@@ -49,7 +49,7 @@ module _ (sheet names : List ℕ) where
         }
 
     -- where no record before record i is a first one with its name, record i is
-    pub lead-none : ((j : ℕ) → j < i → Lead sheet names (bucket_at i) j → same_name (at i) (at j) ≡ true → ⊥) → i ≡ id i
+    lead-none : ((j : ℕ) → j < i → Lead sheet names (bucket_at i) j → same_name (at i) (at j) ≡ true → ⊥) → i ≡ id i
     lead-none none = go (dec_lt (id i) i)
       where
         go : Dec (id i < i) → i ≡ id i
@@ -81,7 +81,7 @@ module _ (sheet names : List ℕ) where
       (here.known-record, keyed-named (at (place - 1)) here.named)
 
   -- a record of the chain with another name is passed
-  pub sought-next :
+  sought-next :
       (i k place : ℕ) → Sought i (suc k) → LastLead sheet names (bucket_at i) k place → same_name (at i) (at k) ≡ false → Sought i place
   sought-next i k place s l differ =
       record {
@@ -115,7 +115,7 @@ module _ (sheet names : List ℕ) where
       earlier j h lead (yes e) = absurd (other (rw (← e) lead))
 
   module _ (heads links : List ℕ) (i : ℕ) (chained : Chained sheet names heads links i) where
-    pub chained-kept : ((b : ℕ) → Lead sheet names b i → ⊥) → Chained sheet names heads links (i + 1)
+    chained-kept : ((b : ℕ) → Lead sheet names b i → ⊥) → Chained sheet names heads links (i + 1)
     chained-kept other =
         record {
           heads-size = chained.heads-size;

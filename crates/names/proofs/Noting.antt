@@ -94,7 +94,7 @@ module _ (sheet names : List ℕ) (m : ℕ) (h : m < known_count sheet) where
   pub unnamed-silent : is_keyed r ≡ false → (kind k : ℕ) → has_id kind rs k r ≡ false
   unnamed-silent f kind k = has-test kind k ∙ rw (f, and-false)
 
-  pub kind-silent : (kind : ℕ) → is kind r ≡ false → (k : ℕ) → has_id kind rs k r ≡ false
+  kind-silent : (kind : ℕ) → is kind r ≡ false → (k : ℕ) → has_id kind rs k r ≡ false
   kind-silent kind f k = has-test kind k ∙ rw f
 
   other-silent : (kind k id : ℕ) → id ≡ id_in rs m r → (id ≡ k → ⊥) → has_id kind rs k r ≡ false

@@ -119,7 +119,7 @@ module _ (sheet names : List ℕ) (room : length sheet ≤ 32768) (whole : lengt
       rw (records-at sheet names i d h) at (every-at fits d i (rw length-records h))
 
   -- the records are those of the view, each under its name
-  pub records-renamed : records sheet names ≡ map (renamed (name_at sheet names)) (view_of sheet 0 (length sheet / record_size))
+  records-renamed : records sheet names ≡ map (renamed (name_at sheet names)) (view_of sheet 0 (length sheet / record_size))
   unfolding records
   records-renamed = rw (sub-zero (length sheet / 32)) (pieces-view sheet names 0 (length sheet / 32) (λ j h. fits-at j (omega arith)))
 
@@ -273,7 +273,7 @@ module _ (sheet names : List ℕ) (room : length sheet ≤ 32768) (whole : lengt
       }
 
   -- the table says of the index of a record with a name what the context says of the name
-  pub contexts-agree :
+  contexts-agree :
       Agree (name_at sheet names) (HasName is_compared sheet) (HasName is_worded sheet) (HasName is_spelled sheet) (context_of (records sheet names)) (context_by (name_table sheet names) sheet)
   contexts-agree = rw table-whole agree
 

@@ -22,7 +22,7 @@ too_few place (d ∷ t ∷ rs) h = absurd (omega arith)
 
 -- the type of the declaration at a place is told by the record before it and by the one at it
 module _ (sheet : List ℕ) (place n : ℕ) (positive : 0 < place) (hn : n ≡ known_count sheet) where
-  pub from_here : (names : List ℕ) → target_of (known sheet names) place ≡ target_at place (drop (place - 1) (known sheet names))
+  from_here : (names : List ℕ) → target_of (known sheet names) place ≡ target_at place (drop (place - 1) (known sheet names))
   from_here names = go place positive
     where
       go : (p : ℕ) → 0 < p → target_of (known sheet names) p ≡ target_at p (drop (p - 1) (known sheet names))

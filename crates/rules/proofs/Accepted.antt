@@ -29,7 +29,7 @@ clean-none none h = refl
 clean-none (some f) h = cc
 
 -- past the head
-abbrev pub in_body : State → Bool
+abbrev in_body : State → Bool
 in_body (context s) = false
 in_body (message s) = true
 in_body (enum s) = true
@@ -118,7 +118,7 @@ module _ {N P : Type 0} where
           rw (e, d, f, record_step, checked)
 
   -- nor does the index
-  pub body_clean : (same : N → N → Bool) (s : State) (names : List N) (i : ℕ) (rs : List (Rec N P)) → in_body s ≡ true
+  body_clean : (same : N → N → Bool) (s : State) (names : List N) (i : ℕ) (rs : List (Rec N P)) → in_body s ≡ true
       → is_clean (first_fault same s names i rs) ≡ reads (checked step) done s rs
   unfolding first_fault reads
   body_clean same s names i [] b = go (done s) refl

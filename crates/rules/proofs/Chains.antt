@@ -285,7 +285,7 @@ module _ {N P : Type 0} where
   invalid-bounded m ctx r = refl
 
   -- where a chain ends, its end is the same under any greater bound
-  pub chain-bound : (ctx : ValidationContext N P) (r : Rec N P) → never_ends ctx r ≡ false → (m : ℕ) → ctx.declarations ≤ m
+  chain-bound : (ctx : ValidationContext N P) (r : Rec N P) → never_ends ctx r ≡ false → (m : ℕ) → ctx.declarations ≤ m
       → chain_end ctx m r ≡ chain_end ctx ctx.declarations r
   chain-bound ctx r h = chain-fixed ctx ctx.declarations r (none-there (behind ctx (chain_end ctx ctx.declarations r)) h)
 

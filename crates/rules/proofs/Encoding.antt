@@ -31,7 +31,7 @@ pub record Encodable (v : Violation) : Type 0 where
   pub len : v.span.len < 2 ^ 32
 
 -- the bytes of a number stand for it
-pub number-bytes : (n x : ℕ) → x < 256 ^ n → number (bytes n x) ≡ x
+number-bytes : (n x : ℕ) → x < 256 ^ n → number (bytes n x) ≡ x
 unfolding bytes number
 number-bytes zero x h = omega arith
 number-bytes (suc n) x h =
@@ -39,7 +39,7 @@ number-bytes (suc n) x h =
     rw (number-bytes n (x / 256) h') (mod-add-div x 256)
 
 -- a violation that was written is read back, whatever follows it
-pub decode-encode : (v : Violation) (rest : List ℕ) → Encodable v → decode_violation (encode v ++ rest) ≡ v
+decode-encode : (v : Violation) (rest : List ℕ) → Encodable v → decode_violation (encode v ++ rest) ≡ v
 unfolding encode decode_violation bytes
 decode-encode v rest h =
     λ i. record {
@@ -48,7 +48,7 @@ decode-encode v rest h =
       span = record { offset = number-bytes 4 v.span.offset h.offset i; len = number-bytes 4 v.span.len h.len i };
     }
 
-pub length-encode : (v : Violation) → length (encode v) ≡ violation_size
+length-encode : (v : Violation) → length (encode v) ≡ violation_size
 unfolding encode bytes
 length-encode v = refl
 
@@ -66,7 +66,7 @@ decode-encoded rest (every-cons {x = v} {xs = vs} h hs) =
 
 module _ (vs : List Violation) (old : List ℕ) where
   -- how many of the violations the buffer holds
-  abbrev pub written_count : ℕ
+  abbrev written_count : ℕ
   written_count = written_of (length vs) (length old)
 
   length_taken : length (take written_count vs) ≡ written_count

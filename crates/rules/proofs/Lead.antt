@@ -137,7 +137,7 @@ module _ {P : Type 0} where
       (none_of-and (is Kind.ImportedName) (λ r. same_bytes r.name name) ys k)
 
   -- records after a head that are of no kind of the context say nothing of it
-  pub context-before : (xs ys : List (Rec (List ℕ) P)) (h : Rec (List ℕ) P) → is Kind.Declaration h ≡ false
+  context-before : (xs ys : List (Rec (List ℕ) P)) (h : Rec (List ℕ) P) → is Kind.Declaration h ≡ false
       → any_of (λ r. within Kind.Declaration Kind.Wildcard r.kind) ys ≡ false
       → context_of (xs ++ (h ∷ ys)) ≡ context_of (xs ++ (h ∷ []))
   unfolding context_of

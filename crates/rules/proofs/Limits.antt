@@ -10,47 +10,20 @@ use Rattle.rules.specs.Bodies.{max_field_ordinal, max_u8_backing, max_u16_backin
 use Rattle.rules.specs.Answer.{max_total}
 use Rattle.rules.specs.Buffer.{violation_size}
 
-record-size : Sheet.RECORD ≡ record_size
-record-size = refl
-
-max-length : Sheet.MAX_LEN ≡ max_length
-max-length = refl
-
-max-records : Sheet.MAX_RECORDS ≡ max_records
-max-records = refl
-
-max-names-length : Sheet.MAX_NAMES_LEN ≡ max_names_length
-max-names-length = refl
-
-max-ordinal : Sheet.MAX_ORDINAL ≡ max_ordinal
-max-ordinal = refl
-
-max-depth : Sheet.MAX_DEPTH ≡ max_depth
-max-depth = refl
-
-max-field-ordinal : Sheet.MAX_FIELD_ORDINAL ≡ max_field_ordinal
-max-field-ordinal = refl
-
-max-u8-backing : Sheet.MAX_U8_BACKING ≡ max_u8_backing
-max-u8-backing = refl
-
-max-u16-backing : Sheet.MAX_U16_BACKING ≡ max_u16_backing
-max-u16-backing = refl
-
-max-u32-backing : Sheet.MAX_U32_BACKING ≡ max_u32_backing
-max-u32-backing = refl
-
-max-u64-backing : Sheet.MAX_U64_BACKING ≡ max_u64_backing
-max-u64-backing = refl
-
-max-bit : Sheet.MAX_BIT ≡ max_bit
-max-bit = refl
-
-max-limit : Sheet.MAX_LIMIT ≡ max_limit
-max-limit = refl
-
-violation-size : Violation.SIZE ≡ violation_size
-violation-size = refl
-
-max-total : Violation.MOST ≡ max_total
-max-total = refl
+limits :
+    (Sheet.RECORD ≡ record_size)
+    × (Sheet.MAX_LEN ≡ max_length)
+    × (Sheet.MAX_RECORDS ≡ max_records)
+    × (Sheet.MAX_NAMES_LEN ≡ max_names_length)
+    × (Sheet.MAX_ORDINAL ≡ max_ordinal)
+    × (Sheet.MAX_DEPTH ≡ max_depth)
+    × (Sheet.MAX_FIELD_ORDINAL ≡ max_field_ordinal)
+    × (Sheet.MAX_U8_BACKING ≡ max_u8_backing)
+    × (Sheet.MAX_U16_BACKING ≡ max_u16_backing)
+    × (Sheet.MAX_U32_BACKING ≡ max_u32_backing)
+    × (Sheet.MAX_U64_BACKING ≡ max_u64_backing)
+    × (Sheet.MAX_BIT ≡ max_bit)
+    × (Sheet.MAX_LIMIT ≡ max_limit)
+    × (Violation.SIZE ≡ violation_size)
+    × (Violation.MOST ≡ max_total)
+limits = (refl, refl, refl, refl, refl, refl, refl, refl, refl, refl, refl, refl, refl, refl, refl)

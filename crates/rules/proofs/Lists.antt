@@ -102,7 +102,7 @@ module _ {A : Type 0} where
   each_map f (each-cons {x} k ks) = each-cons (f x k) (each_map f ks)
 
   -- no element of a front passes the test that ends it
-  pub front-has : (start : A → Bool) (xs : List A) → any_of start (front (λ x. not (start x)) xs) ≡ false
+  front-has : (start : A → Bool) (xs : List A) → any_of start (front (λ x. not (start x)) xs) ≡ false
   unfolding front any_of
   front-has start [] = refl
   front-has start (x ∷ xs) = go (start x) refl (front-has start xs)
@@ -141,7 +141,7 @@ module _ {A : Type 0} where
   any_of-before p [] ys y h = rw h
   any_of-before p (x ∷ xs) ys y h = ap (λ b. p x || b) (any_of-before p xs ys y h)
 
-  pub select-none : (p : A → Bool) (ys : List A) → any_of p ys ≡ false → select p ys ≡ []
+  select-none : (p : A → Bool) (ys : List A) → any_of p ys ≡ false → select p ys ≡ []
   unfolding any_of select
   select-none p [] h = refl
   select-none p (y ∷ ys) h = rw (or_parts (p y) _ h).0 (select-none p ys (or_parts (p y) _ h).1)

@@ -36,7 +36,7 @@ module _ {S A : Type 0} (step : S → A → Step S) (finished : S → Bool) wher
       (begins : (s : S) (x : A) (xs : List A) → start x ≡ true
       → reads_on (step s x) xs ≡ (finished s && (allowed x && reads (enter x) xs))) where
     -- a piece is read to the end by itself
-    abbrev pub reads_item : Item A → Bool
+    abbrev reads_item : Item A → Bool
     reads_item it = allowed it.head && reads (enter it.head) it.rest
 
     pub reads-items : (s : S) (xs : List A)

@@ -117,7 +117,7 @@ module _ {M N P : Type 0} {g : M → N} {Good Worded Spelled : M → Type 0} {ct
   unruled : (r : Rec M P) → WellNamed Good Worded Spelled r → is_member r ≡ true → false ≡ true → Good r.name
   unruled r w h e = absurd (true≢false (sym e))
 
-  pub fields_renamed :
+  fields_renamed :
       {rs : List (Rec M P)} → Every (WellNamed Good Worded Spelled) rs →
       field_list_violations ctx (map (renamed g) rs) ≡ field_list_violations ctx' rs
   unfolding field_list_violations any_of
@@ -136,19 +136,19 @@ module _ {M N P : Type 0} {g : M → N} {Good Worded Spelled : M → Type 0} {ct
       (λ b. found_if 33 (any_of (ltb (backing_max b.sub)) (used_ordinals (slots (body_items body)))) b.place)
       (select (is Kind.Backing) body)
 
-  pub enum-renamed :
+  enum-renamed :
       {body : List (Rec M P)} → Every (WellNamed Good Worded Spelled) body →
       enum_violations ctx (map (renamed g) body) ≡ enum_violations ctx' body
   unfolding enum_violations
   enum-renamed {body} h = ap₂ ◌++◌ (body-items-renamed enum_scheme (λ it. []) (λ it. []) starts_item (λ it w. refl) (λ r starts. unruled r) h) (backing-renamed h)
 
-  pub flags-renamed :
+  flags-renamed :
       {body : List (Rec M P)} → Every (WellNamed Good Worded Spelled) body →
       flags_violations ctx (map (renamed g) body) ≡ flags_violations ctx' body
   unfolding flags_violations
   flags-renamed = body-items-renamed flags_scheme (λ it. []) (λ it. []) starts_item (λ it w. refl) (λ r starts. unruled r)
 
-  pub union-renamed :
+  union-renamed :
       {body : List (Rec M P)} → Every (WellNamed Good Worded Spelled) body →
       union_violations ctx (map (renamed g) body) ≡ union_violations ctx' body
   unfolding union_violations
@@ -156,7 +156,7 @@ module _ {M N P : Type 0} {g : M → N} {Good Worded Spelled : M → Type 0} {ct
       body-items-renamed union_scheme _ _ starts_item (λ it w. ap (only_if (is Kind.Variant it.head)) (fields_renamed w.rest))
       (λ r starts. unruled r)
 
-  pub newtype-renamed :
+  newtype-renamed :
       {body : List (Rec M P)} → Every (WellNamed Good Worded Spelled) body →
       newtype_violations ctx (map (renamed g) body) ≡ newtype_violations ctx' body
   unfolding newtype_violations
@@ -167,7 +167,7 @@ module _ {M N P : Type 0} {g : M → N} {Good Worded Spelled : M → Type 0} {ct
       declared : (sub : ℕ) → (is Kind.Named t && declared_as ctx sub (g t.name)) ≡ (is Kind.Named t && declared_as ctx' sub t.name)
       declared sub = named-renamed alike t w (declared_as ctx sub) (declared_as ctx' sub) (as-renamed alike sub)
 
-  pub body-renamed :
+  body-renamed :
       (sub : ℕ) {body : List (Rec M P)} → Every (WellNamed Good Worded Spelled) body →
       body_violations ctx sub (map (renamed g) body) ≡ body_violations ctx' sub body
   unfolding body_violations

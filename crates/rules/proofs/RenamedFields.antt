@@ -84,7 +84,7 @@ module _ {M N P : Type 0} {g : M → N} {Good Worded Spelled : M → Type 0} {ct
   WordedName r = Worded r.name
 
   -- types
-  pub key-renamed : (r : Rec M P) → WellNamed Good Worded Spelled r → is_invalid_map_key ctx (renamed g r) ≡ is_invalid_map_key ctx' r
+  key-renamed : (r : Rec M P) → WellNamed Good Worded Spelled r → is_invalid_map_key ctx (renamed g r) ≡ is_invalid_map_key ctx' r
   unfolding is_invalid_map_key
   key-renamed r w =
       let end = alike.end r w in
@@ -137,7 +137,7 @@ module _ {M N P : Type 0} {g : M → N} {Good Worded Spelled : M → Type 0} {ct
       ++ only_if (within Kind.Vec2 Kind.Mat4 t.kind) (elements-renamed rs i)
       ++ only_if (is Kind.BitsInline t) (bits i)
 
-  pub types-renamed :
+  types-renamed :
       (due : List Bool) {rs : List (Rec M P)} → Every (WellNamed Good Worded Spelled) rs →
       types_violations ctx due (map (renamed g) rs) ≡ types_violations ctx' due rs
   unfolding types_violations
@@ -208,7 +208,7 @@ module _ {M N P : Type 0} {g : M → N} {Good Worded Spelled : M → Type 0} {ct
   abbrev Annotated : Rec M P → Type 0
   Annotated r = WordedName r × (is Kind.Annotation r ≡ true → Good r.name)
 
-  pub annotations-renamed :
+  annotations-renamed :
       (ty : List (Rec M P)) {rs : List (Rec M P)} → Every Annotated rs →
       annotations_violations ctx (map (renamed g) ty) (map (renamed g) rs) ≡ annotations_violations ctx' ty rs
   unfolding annotations_violations
@@ -253,7 +253,7 @@ module _ {M N P : Type 0} {g : M → N} {Good Worded Spelled : M → Type 0} {ct
           ∙ flat_map-same (renamed g) (operand_violations ctx takes) (operand_violations ctx' takes)
           (every-as (operand-renamed takes) (every_take (length (Kind.parts_of c.kind)) h))
 
-  pub condition-renamed :
+  condition-renamed :
       (ty : List (Rec M P)) {rs : List (Rec M P)} → Every (WellNamed Good Worded Spelled) rs →
       condition_violations ctx (map (renamed g) ty) (map (renamed g) rs) ≡ condition_violations ctx' ty rs
   unfolding condition_violations

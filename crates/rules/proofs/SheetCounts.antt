@@ -45,7 +45,7 @@ module _ {N P : Type 0} (ctx : ValidationContext N P) where
 
 -- a test of violations that looks at class and severity alone
 module _ (q : ℕ → ℕ → Bool) where
-  abbrev pub by_kind : Violation → Bool
+  abbrev by_kind : Violation → Bool
   by_kind v = q v.class v.severity
 
   -- the same test, of rules

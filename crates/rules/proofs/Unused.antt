@@ -225,7 +225,7 @@ module _ (sheet sheet' : List ℕ) (same : SameUsed sheet sheet') where
       byte25 h = rw (byte-of sheet n 25 (omega arith), byte-of sheet' n 25 (omega arith)) h
 
   -- the records are the same,
-  pub records-same : (names : List ℕ) → records sheet names ≡ records sheet' names
+  records-same : (names : List ℕ) → records sheet names ≡ records sheet' names
   unfolding records
   records-same names =
       rw (← same.lengths)

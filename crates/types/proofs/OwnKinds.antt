@@ -28,7 +28,7 @@ module _ (ctx : ValidationContext ℕ Span) (t : Rec ℕ Span) (rs : List (Rec �
   unfolding own_type_violations named_found
   own-named h = rw (own_type_violations, h) (simp append-nil)
 
-  pub own-keyed : Kind.Set ≤ t.kind → t.kind ≤ Kind.Map → own_type_violations ctx t rs ≡ key_violations ctx rs
+  own-keyed : Kind.Set ≤ t.kind → t.kind ≤ Kind.Map → own_type_violations ctx t rs ≡ key_violations ctx rs
   unfolding own_type_violations
   own-keyed least most =
       rw (
@@ -41,7 +41,7 @@ module _ (ctx : ValidationContext ℕ Span) (t : Rec ℕ Span) (rs : List (Rec �
       )
       (simp append-nil)
 
-  pub own-geometric : Kind.Vec2 ≤ t.kind → t.kind ≤ Kind.Mat4 → own_type_violations ctx t rs ≡ element_violations ctx rs
+  own-geometric : Kind.Vec2 ≤ t.kind → t.kind ≤ Kind.Mat4 → own_type_violations ctx t rs ≡ element_violations ctx rs
   unfolding own_type_violations
   own-geometric least most =
       rw (
@@ -54,11 +54,11 @@ module _ (ctx : ValidationContext ℕ Span) (t : Rec ℕ Span) (rs : List (Rec �
       )
       (simp append-nil)
 
-  pub own-bits : t.kind ≡ Kind.BitsInline → own_type_violations ctx t rs ≡ bit_name_violations ctx t.place (front (is Kind.BitName) rs)
+  own-bits : t.kind ≡ Kind.BitsInline → own_type_violations ctx t rs ≡ bit_name_violations ctx t.place (front (is Kind.BitName) rs)
   unfolding own_type_violations
   own-bits h = rw (own_type_violations, h)
 
-  pub own-fixed : t.kind ≡ Kind.FixedArray → own_type_violations ctx t rs ≡ found_if 9 (eqb t.value 0) t.place
+  own-fixed : t.kind ≡ Kind.FixedArray → own_type_violations ctx t rs ≡ found_if 9 (eqb t.value 0) t.place
   unfolding own_type_violations
   own-fixed h = rw (own_type_violations, h) (simp append-nil)
 

@@ -25,7 +25,7 @@ module _ (t : Rec ℕ Span) where
   pub passed-optional : t.kind ≡ Kind.Optional → is_passed t ≡ true
   passed-optional h = passed-other (λ q. omega arith) ∙ rw h
 
-  pub passed-bit : t.kind ≡ Kind.BitName → is_passed t ≡ true
+  passed-bit : t.kind ≡ Kind.BitName → is_passed t ≡ true
   passed-bit h = passed-other (λ q. omega arith) ∙ rw h
 
   -- a fixed array that is passed has elements
