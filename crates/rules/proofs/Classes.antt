@@ -3,10 +3,10 @@ use mathlib.Core.Path.{◌≡◌, refl}
 use Rattle.rules.specs.declared.violation.TheConstants.Violation
 use Rattle.rules.specs.Rule
 
-severities : (Violation.ERROR ≡ Rule.error) × (Violation.WARNING ≡ Rule.warning)
-severities = (refl, refl)
+severities-same : (Violation.ERROR ≡ Rule.error) × (Violation.WARNING ≡ Rule.warning)
+severities-same = (refl, refl)
 
-classes :
+classes-same :
     (Violation.FieldNameDuplicate ≡ Rule.FieldNameDuplicate)
     × (Violation.OrdinalDuplicate ≡ Rule.OrdinalDuplicate)
     × (Violation.OrdinalTooLarge ≡ Rule.OrdinalTooLarge)
@@ -40,4 +40,4 @@ classes :
     × (Violation.WhereClauseConstRefNotFound ≡ Rule.WhereClauseConstRefNotFound)
     × (Violation.WhereClauseOperatorInvalid ≡ Rule.WhereClauseOperatorInvalid)
     × (Violation.InvariantUnsupported ≡ Rule.InvariantUnsupported)
-classes = (refl, refl, refl, refl, refl, refl, refl, refl, refl, refl, refl, refl, refl, refl, refl, refl, refl, refl, refl, refl, refl, refl, refl, refl, refl, refl, refl, refl, refl, refl, refl, refl, refl)
+classes-same = (refl, refl, refl, refl, refl, refl, refl, refl, refl, refl, refl, refl, refl, refl, refl, refl, refl, refl, refl, refl, refl, refl, refl, refl, refl, refl, refl, refl, refl, refl, refl, refl, refl)

@@ -10,7 +10,7 @@ use Rattle.rules.specs.Bodies.{max_field_ordinal, max_u8_backing, max_u16_backin
 use Rattle.rules.specs.Answer.{max_total}
 use Rattle.rules.specs.Buffer.{violation_size}
 
-limits :
+limits-same :
     (Sheet.RECORD ≡ record_size)
     × (Sheet.MAX_LEN ≡ max_length)
     × (Sheet.MAX_RECORDS ≡ max_records)
@@ -26,4 +26,4 @@ limits :
     × (Sheet.MAX_LIMIT ≡ max_limit)
     × (Violation.SIZE ≡ violation_size)
     × (Violation.MOST ≡ max_total)
-limits = (refl, refl, refl, refl, refl, refl, refl, refl, refl, refl, refl, refl, refl, refl, refl)
+limits-same = (refl, refl, refl, refl, refl, refl, refl, refl, refl, refl, refl, refl, refl, refl, refl)
