@@ -1,6 +1,6 @@
 -- Records by their keys, in slots: a slot has the place behind the last record whose key falls into it.
 use Rattle.std.specs.Prelude.{ℕ, zero, suc, ◌+◌, ◌-◌, ◌%◌, ◌≤◌, ◌<◌, ◌≡◌, Bool, true, false, ◌&&◌, ◌||◌, List, length, get_or, eqb}
-use Rattle.names.specs.NameTable.{max_records}
+use Rattle.rules.specs.Refusals.{max_records}
 
 module _ (on : ℕ → Bool) (key : ℕ → ℕ) (a : ℕ) where
   -- of n records from record a on, one that is on has the key

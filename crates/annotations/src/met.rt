@@ -1,6 +1,6 @@
 // The names that the records of a list have, in slots: for a long list.
 ghost use Rattle.std.specs.Prelude.{◌≡◌, ◌+◌, ◌%◌, ◌≤◌, ◌<◌};
-ghost use Rattle.names.specs.NameTable.{max_records};
+ghost use Rattle.rules.specs.Refusals.{max_records};
 ghost use Rattle.names.specs.Known.{numbers_of};
 ghost use Rattle.annotations.specs.Met.{is_met};
 ghost use Rattle.annotations.specs.Named.{row_of, HasNames};

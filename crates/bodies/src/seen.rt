@@ -3,7 +3,7 @@ ghost use Rattle.std.specs.Prelude.{◌≡◌, ◌≢◌, ◌+◌, ◌%◌, ◌�
 ghost use Rattle.rules.specs.Words.{member};
 ghost use Rattle.rules.specs.Kind;
 ghost use Rattle.rules.specs.Record.{value_in, record_bytes};
-ghost use Rattle.names.specs.NameTable.{max_records};
+ghost use Rattle.rules.specs.Refusals.{max_records};
 ghost use Rattle.bodies.specs.Earlier.{has_value, values_of, values_before};
 ghost use Rattle.bodies.specs.Seen.{latest};
 ghost use Rattle.bodies.specs.Met.{sheet_of, start_of, IsItem, tombstoned_in, met_before, KeptBefore, KnownBefore};

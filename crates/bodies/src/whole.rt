@@ -2,7 +2,7 @@
 ghost use Rattle.std.specs.Prelude.{◌≡◌, true, ◌+◌, ◌*◌, ◌<◌, ◌≤◌, length};
 ghost use Rattle.rules.specs.Kind;
 ghost use Rattle.rules.specs.Record.{record_size, record_bytes, kind_in, value_in};
-ghost use Rattle.names.specs.NameTable.{max_records};
+ghost use Rattle.rules.specs.Refusals.{max_records};
 
 use names::ValidationContext;
 use rules::{RecordRange, Sheet};

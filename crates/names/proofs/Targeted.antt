@@ -22,11 +22,11 @@ use Rattle.names.specs.SameEnds.{sub_of, leads_on, SameEnds, Lasting, with_targe
 use Rattle.names.proofs.Shortened.{Next, kept, last, chain-step, short-ends, short-leads, short-lasting}
 
 -- the store
-target-in : (table : List ℕ) (i place : ℕ) → i < 1024 → set table (3072 + i) place ≡ with_target table i place
+pub target-in : (table : List ℕ) (i place : ℕ) → i < 1024 → set table (3072 + i) place ≡ with_target table i place
 unfolding with_target
 target-in table i place h = rw (lt-ltb i 1024 h, with_target) refl
 
-target-out : (table : List ℕ) (i place : ℕ) → 1024 ≤ i → table ≡ with_target table i place
+pub target-out : (table : List ℕ) (i place : ℕ) → 1024 ≤ i → table ≡ with_target table i place
 unfolding with_target
 target-out table i place h = rw (le-ltb i 1024 h, with_target) refl
 

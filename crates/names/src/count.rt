@@ -1,6 +1,6 @@
 // How many records the table is about.
 ghost use Rattle.std.specs.Prelude.{◌≡◌, ◌≤◌};
-ghost use Rattle.names.specs.NameTable.{max_records};
+ghost use Rattle.rules.specs.Refusals.{max_records};
 ghost use Rattle.names.specs.Parts.{known_count};
 
 use rules::Sheet;

@@ -1,6 +1,6 @@
 // The bucket of a name. Its bytes are weighed four at a time, those of a long name at its ends and in its middle.
 ghost use Rattle.std.specs.Prelude.{◌≡◌, ◌+◌, ◌*◌, ◌≤◌, ◌<◌, length, get_or};
-ghost use Rattle.names.specs.NameTable.{max_records};
+ghost use Rattle.rules.specs.Refusals.{max_records};
 ghost use Rattle.names.specs.Buckets.{word_at, weighed_bytes, weighed, bucket_of};
 
 use rules::Sheet;

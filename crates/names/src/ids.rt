@@ -1,6 +1,7 @@
 // Where the name of a record is met first: the id.
 ghost use Rattle.std.specs.Prelude.{◌≡◌, true, List, ℕ, ◌+◌, ◌≤◌, ◌<◌, MatchOption};
-ghost use Rattle.names.specs.NameTable.{max_records, is_keyed};
+ghost use Rattle.rules.specs.Refusals.{max_records};
+ghost use Rattle.names.specs.NameTable.{is_keyed};
 ghost use Rattle.names.specs.Buckets.{bucket_of, Chained};
 ghost use Rattle.names.specs.NamedRecord.{named_record, id_of, ChainedBefore};
 

@@ -17,7 +17,6 @@ mod values;
 mod whole;
 mod words;
 
-pub use compare::same_bytes;
 pub use context::ValidationContext;
 pub use table::NameTable;
 pub use whole::fill;

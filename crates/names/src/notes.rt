@@ -1,6 +1,6 @@
 // What is noted at an id while the records are read, and spread to all records with that id after. A place is an index and one more; 0 is none.
 ghost use Rattle.std.specs.Prelude.{◌≡◌, ◌+◌, ◌<◌};
-ghost use Rattle.names.specs.NameTable.{max_records};
+ghost use Rattle.rules.specs.Refusals.{max_records};
 ghost use Rattle.names.specs.NamedRecord.{id_of};
 ghost use Rattle.names.specs.Notes.{set_first, Read, Spread};
 ghost use Rattle.names.specs.Parts.{known_count};

@@ -1,29 +1,22 @@
 -- What the four numbers of an answer can be.
-use Rattle.std.specs.Prelude.{ℕ, ◌*◌, ◌/◌, Bool, true, false, ◌&&◌, ◌||◌, eqb, leb, ltb}
+use Rattle.std.specs.Prelude.{ℕ, Bool, true, false, ◌&&◌, ◌||◌, eqb, leb, ltb}
 use Rattle.rules.specs.declared.answer.AnswerValues.{AnswerValues}
-use Rattle.rules.specs.Record.{record_size}
-use Rattle.rules.specs.Refusals.{max_length}
-
--- the most records of a sheet that row 1 lets through, and the most violations of its list: no record has more than three
-abbrev pub most_records : ℕ
-most_records = max_length / record_size
-
-abbrev pub most_violations : ℕ
-most_violations = 3 * most_records
+use Rattle.rules.specs.Refusals.{max_records}
+use Rattle.rules.specs.Answer.{max_total}
 
 -- the index of a refusal: 0 by rows 1 and 2, else a record's, or the count of the records for an early end, which is row 6
 unfoldable pub is_index : ℕ → ℕ → Bool
 is_index number index =
     elim (leb number 2) [
       | true ↦ eqb index 0
-      | false ↦ ltb index most_records || (eqb number 6 && eqb index most_records)
+      | false ↦ ltb index max_records || (eqb number 6 && eqb index max_records)
     ]
 
 -- number 0 with index 0, a total that a list can have and no more errors, or a refusal from 1 to 9 with an index and neither
 unfoldable pub is_answer : ℕ → ℕ → ℕ → ℕ → Bool
 is_answer number index total errors =
     elim (eqb number 0) [
-      | true ↦ eqb index 0 && leb total most_violations && leb errors total
+      | true ↦ eqb index 0 && leb total max_total && leb errors total
       | false ↦ leb number 9 && is_index number index && eqb total 0 && eqb errors 0
     ]
 

@@ -5,9 +5,9 @@ use Rattle.rules.specs.Words.{select, same_bytes}
 use Rattle.rules.specs.Kind
 use Rattle.rules.specs.Sub
 use Rattle.rules.specs.Record.{records, is_of}
-use Rattle.rules.specs.Answer.{answer}
-use Rattle.rules.specs.Buffer.{violation_size, buffer_after}
-use Rattle.recorded.specs.Answer.{most_violations, same_values}
+use Rattle.rules.specs.Answer.{max_total, answer}
+use Rattle.rules.specs.Buffer.{violation_size, max_list_size, buffer_after}
+use Rattle.recorded.specs.Answer.{same_values}
 use Rattle.recorded.specs.Buffer.{marks, recorded_after}
 
 -- the answer is the recorded one, and so is every byte of a buffer of n bytes
@@ -18,12 +18,12 @@ is_same sheet names told violations n =
 
 -- the length of the longest buffer: more than any list has
 abbrev pub longest : ℕ
-longest = violation_size * most_violations + 29
+longest = max_list_size + 29
 
 -- the lengths of five buffers for so many violations: none, some whole records too few, the next record cut, just enough, and the longest
 unfoldable pub buffer_lengths : ℕ → List ℕ
 buffer_lengths total =
-    let k : ℕ = min total most_violations in
+    let k : ℕ = min total max_total in
     0 ∷ (violation_size * (k / 2)) ∷ (violation_size * (k / 2) + 7) ∷ (violation_size * k) ∷ longest ∷ []
 
 -- how many of the five are the same

@@ -1,18 +1,27 @@
 -- The rows in turn: each answer of the code is the row that the definition comes to.
-use Prim.Native.Nat.{ℕ, ◌/◌, ◌<◌, ◌≤◌}
+use Prim.Native.Nat.{ℕ, ◌/◌, ◌%◌}
 use mathlib.Core.Path.{◌≡◌, refl, sym, ap, ◌∙◌, subst}
-use mathlib.Core.Bool.{Bool, true, false}
+use mathlib.Core.Bool.{Bool, true, false, not, ◌||◌}
 use mathlib.Core.List.{List}
 use mathlib.Core.Option.{Option, some, none}
 use lib.ListN.{length}
-use borrow.Author.Tests.{lt-ltb, le-ltb}
-use Rattle.rules.specs.Record.{records}
+use lib.Dec.{eqb, ltb}
+use Rattle.rules.specs.Record.{record_size, records}
 use Rattle.rules.specs.Grammar.{start}
-use Rattle.rules.specs.Refusals.{Fault, is_wrong_length, is_long_names}
+use Rattle.rules.specs.Refusals.{Fault, max_length, max_names_length, is_wrong_length, is_long_names}
+use Rattle.rules.specs.declared.sheet.Sheet.{Sheet}
 use Rattle.rules.specs.declared.answer.Refused.{Refused}
 use Rattle.std.specs.Prelude.{Result, Ok, Err}
 use Rattle.refusals.specs.Pass.{is_second, first_fault_by, Ended, passed_of, EndSound, fault_of}
 use Rattle.refusals.specs.Turned.{endless_by, refusal_by}
+
+-- rows 1 and 2, told by the two lengths
+module _ (sheet names : List ℕ) (lengths : Sheet) (made : (lengths.len ≡ length sheet) × (lengths.names_len ≡ length names)) (result told : Bool) where
+  pub wrong-length : result ≡ (not (eqb (lengths.len % record_size) 0) || ltb max_length lengths.len) → result ≡ told → is_wrong_length sheet ≡ told
+  wrong-length e t = rw (← made.0) (sym e ∙ t)
+
+  pub long-names : result ≡ ltb max_names_length lengths.names_len → result ≡ told → is_long_names names ≡ told
+  long-names e t = rw (← made.1) (sym e ∙ t)
 
 module _ (table sheet names : List ℕ) where
   abbrev third : Option Fault → Option Fault
@@ -36,12 +45,12 @@ module _ (table sheet names : List ℕ) where
   row_1 e = sym (rows_as true (is_long_names names) e refl)
 
   module _ (e : is_wrong_length sheet ≡ false) where
-    pub row_2 : 16384 < length names → some (record { number = 2; index = 0 }) ≡ refusal_by table sheet names
-    row_2 h = sym (rows_as false true e (lt-ltb 16384 (length names) h))
+    pub row_2 : is_long_names names ≡ true → some (record { number = 2; index = 0 }) ≡ refusal_by table sheet names
+    row_2 h = sym (rows_as false true e h)
 
-    module _ (h : length names ≤ 16384) (v : Result ℕ Refused) (hv : passed_of v ≡ first_fault_by (is_second table) start 0 (records sheet names)) where
+    module _ (h : is_long_names names ≡ false) (v : Result ℕ Refused) (hv : passed_of v ≡ first_fault_by (is_second table) start 0 (records sheet names)) where
       rows_then : third (passed_of v) ≡ refusal_by table sheet names
-      rows_then = ap third hv ∙ sym (rows_as false false e (le-ltb 16384 (length names) h))
+      rows_then = ap third hv ∙ sym (rows_as false false e h)
 
       pub rows_3_to_8 : (why : Refused) → v ≡ Err why → some (fault_of why) ≡ refusal_by table sheet names
       rows_3_to_8 why q = sym (ap (λ (w : Result ℕ Refused). third (passed_of w)) q) ∙ rows_then

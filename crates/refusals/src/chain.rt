@@ -8,10 +8,10 @@
 // The table is lent by `&mut`, so that a context of it and the sheet is made where one is asked for. What lasts of the table each function hands to its caller: a
 // type of the table and the sheet would hold the table by `&mut`, and each function would have these clauses all the same.
 ghost use Rattle.std.specs.Prelude.{◌≡◌, ◌&&◌, ◌+◌, ◌/◌, ◌≤◌, ◌<◌, length};
-ghost use Rattle.rules.specs.Record.{is_of};
+ghost use Rattle.rules.specs.Record.{record_size, is_of};
 ghost use Rattle.rules.specs.Context as Context;
-ghost use Rattle.rules.specs.Refusals.{leads_nowhere};
-ghost use Rattle.names.specs.View.{view_at, view_of, context_by};
+ghost use Rattle.rules.specs.Refusals.{max_length, max_records, leads_nowhere};
+ghost use Rattle.names.specs.View.{max_place, view_at, view_of, context_by};
 ghost use Rattle.names.specs.SameEnds.{Lasting};
 ghost use Rattle.refusals.specs.Pass.{Ended, verdict_of};
 ghost use Rattle.refusals.specs.Turned.{endless_by};
@@ -25,7 +25,7 @@ use rules::{Refusal, Refused};
 // Has the table lead to the end from the type at record `t` and from those behind it, up to the first that leads there already.
 #[tactic(auto, using(crate::proofs::ChainEnds::kept_itself))]
 fn shorten(sheet: &[u8], table: &mut NameTable, t: usize, end: usize)
-    requires { Lasting (context_by table.old sheet.now) × (end < 65535) × EndsAt table.old sheet.now t end }
+    requires { Lasting (context_by table.old sheet.now) × (end < max_place) × EndsAt table.old sheet.now t end }
     ensures { Kept sheet.now table.old table.new }
 {
     let mut at = t;
@@ -37,7 +37,7 @@ fn shorten(sheet: &[u8], table: &mut NameTable, t: usize, end: usize)
         if next == end {
             return;
         }
-        // a place counts from 1, and the end is below 65535
+        // a place counts from 1, and the end is below the greatest
         table.set_target(at, (end + 1) as u16);
         at = next;
     }
@@ -46,7 +46,7 @@ fn shorten(sheet: &[u8], table: &mut NameTable, t: usize, end: usize)
 // Whether the chain from the type at record `t` on never ends; if it ends, the table is shortened on its way.
 #[tactic(auto, using(crate::proofs::ChainEnds::end_found, crate::proofs::ChainEnds::end_told, crate::proofs::ChainEnds::kept_itself))]
 fn never_ends(sheet: &[u8], table: &mut NameTable, t: usize) -> bool
-    requires { Lasting (context_by table.old sheet.now) × (t < 65535) }
+    requires { Lasting (context_by table.old sheet.now) × (t < max_place) }
     ensures told { result ≡ Context.never_ends (context_by table.old sheet.now) (view_at sheet.now t) }
     ensures kept { Kept sheet.now table.old table.new }
 {
@@ -62,7 +62,7 @@ fn never_ends(sheet: &[u8], table: &mut NameTable, t: usize) -> bool
 // Whether record `i` of `n` is a newtype whose chain never ends.
 #[tactic(auto, using(crate::proofs::ChainWalk::other_ends, crate::proofs::ChainWalk::last_ends, crate::proofs::ChainWalk::newtype_walked, crate::proofs::ChainEnds::kept_itself))]
 fn is_endless(sheet: &[u8], table: &mut NameTable, i: usize, n: usize) -> bool
-    requires { Lasting (context_by table.old sheet.now) × (i < n) × (n ≤ 1024) }
+    requires { Lasting (context_by table.old sheet.now) × (i < n) × (n ≤ max_records) }
     ensures told { result ≡ (is_of 1 4 (view_at sheet.now i) && leads_nowhere (context_by table.old sheet.now) (view_of sheet.now (i + 1) n)) }
     ensures kept { Kept sheet.now table.old table.new }
 {
@@ -71,7 +71,7 @@ fn is_endless(sheet: &[u8], table: &mut NameTable, i: usize, n: usize) -> bool
 
 // The first newtype whose chain never ends. The newtypes end at `end`.
 pub fn endless(sheet: &[u8], table: &mut NameTable, end: usize) -> Result<(), Refused>
-    requires { (length sheet.now ≤ 32768) × Ended sheet.now end (length sheet.now / 32) × Lasting (context_by table.old sheet.now) }
+    requires { (length sheet.now ≤ max_length) × Ended sheet.now end (length sheet.now / record_size) × Lasting (context_by table.old sheet.now) }
     ensures told { verdict_of result ≡ endless_by table.old sheet.now }
     ensures kept { Kept sheet.now table.old table.new }
 {

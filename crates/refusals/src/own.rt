@@ -11,7 +11,7 @@ use rules::{Refusal, Sheet};
 use sheet::kinds;
 
 // What byte 1 is to be less than, if there is such a kind: how many subs the kind has; 256 for a kind without a sub, whose byte 1 may be any.
-// Where `sheet::is_known` and `sheet::sub_count` tell it, `exercise` takes 8 in 100 more instructions, and is at its aim (0.46 of the ready tree on one
+// By a test of the kinds that there are and by how many subs they have, in turn, `exercise` takes 8 in 100 more instructions, and is at its aim (0.46 of the ready tree on one
 // machine, 0.54 on another; the aim is 0.5).
 #[tactic(auto, unfolding(rules::specs::Words::look_up))]
 fn sub_limit(kind: u8) -> Option<u16>

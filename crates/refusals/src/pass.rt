@@ -3,9 +3,9 @@
 // The sheet, the names text and the table stand side by side, as `accept` is asked with them: below `record_step` no function takes more than two of
 // the three, so that a struct of them would be taken apart there.
 ghost use Rattle.std.specs.Prelude.{◌≡◌, ◌&&◌, ◌+◌, ◌/◌, ◌<◌, ◌≤◌, length, eqb};
-ghost use Rattle.rules.specs.Record.{record_bytes, decode, kind_in, sub_in, records};
+ghost use Rattle.rules.specs.Record.{record_size, record_bytes, decode, kind_in, sub_in, records};
 ghost use Rattle.rules.specs.Grammar as Grammar;
-ghost use Rattle.rules.specs.Refusals.{max_length};
+ghost use Rattle.rules.specs.Refusals.{max_length, max_records};
 ghost use Rattle.refusals.specs.Due.{bare};
 ghost use Rattle.refusals.specs.States.{state_of, step_of};
 ghost use Rattle.refusals.specs.Pass.{is_second, or_second, record_step_by, first_fault_by, Ended, passed_of, EndSound};
@@ -23,7 +23,7 @@ use sheet::kinds;
 // Whether the first declaration of record `i`'s name is another one.
 #[tactic(auto, using(crate::proofs::Passes::second_read))]
 fn is_second(table: &NameTable, i: usize) -> bool
-    requires { i < 1024 }
+    requires { i < max_records }
     ensures { result ≡ is_second table.now i }
 {
     table.declaration(i) != Some(i)
@@ -38,7 +38,7 @@ fn grammar_step(
     state: &mut State,
     i: usize,
 ) -> Result<(), Refusal>
-    requires { i < 1024 }
+    requires { i < max_records }
     ensures { step_of result state.new due.new ≡ or_second (eqb (kind_in bytes.now) 1 && is_second table.now i) (Grammar.step (state_of state.old due.old) (bare (kind_in bytes.now) (sub_in bytes.now))) }
 {
     let kind = bytes[0];
@@ -59,7 +59,7 @@ fn record_step(
     state: &mut State,
     i: usize,
 ) -> Result<(), Refusal>
-    requires { (i < 1024) × (i < length sheet.now / 32) }
+    requires { (i < max_records) × (i < length sheet.now / record_size) }
     ensures { step_of result state.new due.new ≡ record_step_by (is_second table.now i) (state_of state.old due.old) (decode names.now (record_bytes sheet.now i)) }
 {
     let bytes = record(sheet, i);
@@ -70,7 +70,7 @@ fn record_step(
 // Where the newtypes end that come before record `i` or are record `i`.
 #[tactic(auto, using(crate::proofs::Passes::ends_here, crate::proofs::Passes::ends_after))]
 fn newtypes_end(sheet: &[u8], end: usize, i: usize) -> usize
-    requires { Ended sheet.now end i × (i < 1024) }
+    requires { Ended sheet.now end i × (i < max_records) }
     ensures { Ended sheet.now result (i + 1) }
 {
     if is_newtype(sheet, i) {

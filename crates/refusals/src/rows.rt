@@ -21,10 +21,11 @@ fn refuse(sheet: &[u8], names: &[u8], table: &mut NameTable) -> Result<(), Refus
     ensures left { LeftBy (verdict_of result) sheet.now table.old table.new }
     ensures ends { SameEnds (context_by table.old sheet.now) (context_by table.new sheet.now) }
 {
-    if (sheet.len() % Sheet::RECORD != 0) | (Sheet::MAX_LEN < sheet.len()) {
+    let lengths = Sheet::new(sheet.len(), names.len());
+    if lengths.is_wrong_length() {
         return Err(refused_at(Refusal::SheetLength, 0)); // row 1
     }
-    if Sheet::MAX_NAMES_LEN < names.len() {
+    if lengths.is_long_names() {
         return Err(refused_at(Refusal::NamesLength, 0)); // row 2
     }
     let end = first_fault(sheet, names, table)?;

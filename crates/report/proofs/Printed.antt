@@ -11,14 +11,14 @@ use lib.Seq.{take-length}
 use Rattle.rules.specs.declared.violation.Violation.{Violation}
 use Rattle.rules.specs.Refusals.{Fault, refusal}
 use Rattle.rules.specs.Answer.{answer, is_accepted, full_list, total_of, errors_of}
-use Rattle.rules.specs.Buffer.{buffer_after, written, decode_list, written_of}
+use Rattle.rules.specs.Buffer.{violation_size, max_list_size, buffer_after, written, decode_list, written_of}
 use Rattle.rules.specs.Printed.{printed, violation_line, counts_line}
 use Rattle.rules.proofs.Bound.{list-fits}
 use Rattle.rules.proofs.Faults.{refusal-row, row-positive}
 use Rattle.rules.proofs.Encoding.{full-list-encodable, decode-written, length-written}
 use Rattle.report.specs.Lines.{told_of, violation_lines, lines_of}
 
-module _ (sheet names old : List ℕ) (bytes : (i : ℕ) → get_or sheet i 0 < 256) (room : 36864 ≤ length old) where
+module _ (sheet names old : List ℕ) (bytes : (i : ℕ) → get_or sheet i 0 < 256) (room : max_list_size ≤ length old) where
   abbrev full : List Violation
   full = full_list sheet names
 
@@ -26,7 +26,7 @@ module _ (sheet names old : List ℕ) (bytes : (i : ℕ) → get_or sheet i 0 < 
   all_told : refusal sheet names ≡ none → violation_lines (told_of (total_of full) (length (written full old))) (written full old) ≡ flat_map violation_line full
   unfolding violation_lines
   all_told e =
-      let fits : 12 * length full ≤ 36864 = list-fits sheet names (rw (e, is_accepted)) in
+      let fits : violation_size * length full ≤ max_list_size = list-fits sheet names (rw (e, is_accepted)) in
       let all : written_of (length full) (length old) ≡ length full = omega arith in
       let kept : length (written full old) ≡ length old = length-written full old in
       let told : told_of (length full) (length (written full old)) ≡ written_of (length full) (length old) = omega arith in

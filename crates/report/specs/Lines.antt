@@ -1,17 +1,18 @@
 -- The lines that are told of an answer and its list, for every answer and every list.
-use Rattle.std.specs.Prelude.{ℕ, min, true, false, length, eqb}
+use Rattle.std.specs.Prelude.{ℕ, ◌+◌, ◌*◌, min, true, false, length, eqb}
 use mathlib.Core.List.{List, [], ◌∷◌, ◌++◌, flat_map}
 use Rattle.rules.specs.declared.answer.AnswerValues.{AnswerValues}
+use Rattle.rules.specs.Answer.{max_total}
 use Rattle.rules.specs.Buffer.{decode_list, written_of}
 use Rattle.rules.specs.Printed.{decimal, violation_line, counts_line, refusal_line}
 
--- the most violations that are told: as many as 36864 bytes hold, which is enough for every sheet
-abbrev pub most_told : ℕ
-most_told = 3072
-
--- how many violations are told of so many, in a list of that length: those that are written, and no more than the most
+-- how many violations are told of so many, in a list of that length: those that are written, and no more than any sheet's list has
 abbrev pub told_of : ℕ → ℕ → ℕ
-told_of total len = min most_told (written_of total len)
+told_of total len = min max_total (written_of total len)
+
+-- the bytes of the longest text: so many violations and the counts, a line of at most 35 bytes for each
+abbrev pub max_text : ℕ
+max_text = 35 * (max_total + 1)
 
 -- the lines of the first n violations of a list
 unfoldable pub violation_lines : ℕ → List ℕ → List ℕ

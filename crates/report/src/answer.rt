@@ -1,7 +1,9 @@
 // All the lines of an answer.
 ghost use Rattle.std.specs.Prelude.{◌≡◌, ◌++◌, ◌+◌, ◌*◌, ◌≤◌, length, drop};
+ghost use Rattle.rules.specs.Answer.{max_total};
+ghost use Rattle.rules.specs.Buffer.{violation_size};
 ghost use Rattle.report.specs.Put.{Adds};
-ghost use Rattle.report.specs.Lines.{lines_of, told_of};
+ghost use Rattle.report.specs.Lines.{max_text, lines_of, told_of};
 
 use crate::lines::{put_pair, put_violations};
 use crate::text::Text;
@@ -15,7 +17,7 @@ pub const SIZE: usize = LINE * (Violation::MOST + 1);
 
 // How many violations are told of so many, in a list of that length.
 fn told(total: u32, len: usize) -> usize
-    ensures { (result ≡ told_of total len) × (result ≤ 3072) × (12 * result ≤ len) }
+    ensures { (result ≡ told_of total len) × (result ≤ max_total) × (violation_size * result ≤ len) }
 {
     (total as usize)
         .min(len / Violation::SIZE)
@@ -24,9 +26,9 @@ fn told(total: u32, len: usize) -> usize
 
 // Puts the lines behind a text. It goes by the number, 0 where the sheet is accepted: `report` takes any four numbers, and an `Answer` would ask more of its callers.
 fn put_lines(text: &mut Text, values: AnswerValues, list: &[u8])
-    requires { text.old.len + 107555 ≤ length text.old.buffer.now }
+    requires { text.old.len + max_text ≤ length text.old.buffer.now }
     ensures adds { Adds text.old text.new (lines_of values list.now) }
-    ensures short { text.new.len ≤ text.old.len + 107555 }
+    ensures short { text.new.len ≤ text.old.len + max_text }
 {
     if values.number == 0 {
         put_violations(text, list, told(values.total, list.len()));

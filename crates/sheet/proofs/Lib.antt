@@ -1,7 +1,6 @@
 pub mod Numbers
 pub mod Part
 pub mod Below
-pub mod Matched
 pub mod Fields
 pub mod Windows
 pub mod Marks
