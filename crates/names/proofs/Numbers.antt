@@ -1,12 +1,12 @@
 -- What code reads and finds of a record is what the definitions say of it: each law takes what was read and what the tests said at one
 -- `return`.
-use Prim.Native.Nat.{ℕ, ◌+◌, ◌-◌, ◌*◌, ◌≤◌, ◌<◌}
+use Prim.Native.Nat.{ℕ, ◌*◌, ◌≤◌, ◌<◌}
 use mathlib.Core.Path.{◌≡◌, refl, ◌∙◌, sym}
 use mathlib.Core.Bool.{Bool, true, false, ◌&&◌, true≢false, not, ◌||◌}
 use mathlib.Core.List.{List}
 use native.Mathlib.Omega.{arith}
-use lib.ListN.{length, get_or, take, drop, length-take, length-drop}
-use lib.Seq.{take-take, take_all}
+use lib.ListN.{get_or, take, drop}
+use lib.Seq.{take-take}
 use Rattle.std.proofs.lemmas.Bool.{and_parts}
 use Rattle.rules.specs.declared.span.Span.{Span}
 use Rattle.rules.specs.Kind
@@ -81,14 +81,6 @@ module _ (sheet names : List ℕ) (i : ℕ) where
   unfolding name_in
   name_by named =
       let parts = and_parts (is_named_in (record_bytes sheet i)) (name_fits names (record_bytes sheet i)) (sym named_by ∙ named) in rw (parts.0, parts.1)
-
--- a part cut out of the rest of a text
-module _ (text : List ℕ) (start len : ℕ) where
-  pub rest_part : take len (take (length text - start) (drop start text)) ≡ take len (drop start text)
-  rest_part = rw (take_all (length text - start) (drop start text) (omega (arith, length-drop start text))) refl
-
-  pub rest_length : start + len ≤ length text → len ≡ length (take len (take (length text - start) (drop start text)))
-  rest_length h = rw (rest_part, length-take len (drop start text), length-drop start text) (omega arith)
 
 -- a record is the first of its own bytes
 module _ (sheet own : List ℕ) (i : ℕ) (e : own ≡ record_bytes sheet i) where

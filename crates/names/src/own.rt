@@ -24,14 +24,14 @@ fn is_named(own: &[u8], names: &[u8]) -> bool
 }
 
 // The name of the record with these bytes, which has one that fits: that part of the names text.
-#[tactic(auto, using(crate::proofs::Numbers::name_fitting, crate::proofs::Numbers::name_by, crate::proofs::Numbers::rest_part, crate::proofs::Numbers::rest_length))]
+#[tactic(auto, using(crate::proofs::Numbers::name_fitting, crate::proofs::Numbers::name_by))]
 fn name<'a>(own: &[u8], names: &'a [u8]) -> &'a [u8]
     requires { is_named (record_of own.now names.now 0) ≡ true }
     ensures { result.now ≡ name_in names.now (record_bytes own.now 0) }
 {
     let start = sheet::name_offset(own, 0);
-    let len = sheet::name_len(own, 0);
-    &names[start..][..len]
+    let end = start + sheet::name_len(own, 0);
+    &names[start..end]
 }
 
 // The name of record `i`, which has one that fits.

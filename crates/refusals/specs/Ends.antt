@@ -2,8 +2,7 @@
 use Rattle.std.specs.Prelude.{ℕ, suc, ◌*◌, ◌≤◌, ◌≡◌, true, List, ◌++◌, length, take, drop}
 use Rattle.std.proofs.Math.Option.{Option, some, none}
 use Rattle.rules.specs.Context.{behind, chain_end}
-use Rattle.rules.specs.Refusals.{Fault}
-use Rattle.rules.specs.Refusals.{max_records}
+use Rattle.rules.specs.Refusals.{max_records, Fault}
 use Rattle.names.specs.View.{view_at, entry_of, target_part, code_part, declarations_of, context_by}
 use Rattle.names.specs.SameEnds.{leads_on, SameEnds, Lasting}
 
