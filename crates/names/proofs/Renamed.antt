@@ -228,7 +228,7 @@ module _ (sheet names : List ℕ) (room : length sheet ≤ 32768) (whole : lengt
       go : Dec (suc k < length sheet / 32) →
           inner_of (record_at k).sub (drop (suc k) rs)
           ≡ map_option (renamed (name_at sheet names)) (inner_at sheet (target_at (suc k) (record_at k ∷ drop (suc k) rs)))
-      go (yes l) = rw (drop_at (suc k) l) (by-test (eqb (record_at k).sub Sub.Newtype && Kind.is_type (record_at (suc k)).kind) l)
+      go (yes l) = rw (drop_at (suc k) l) (by-test (Sub.is_renaming (record_at k).sub && Kind.is_type (record_at (suc k)).kind) l)
       go (no g) = rw (records-end sheet names (suc k) (omega arith))
 
   declared-at :

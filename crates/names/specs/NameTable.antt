@@ -3,7 +3,7 @@
 -- whether the name is imported; the place of the first record of the type that the name is declared with; and the name's code. Behind them
 -- stand whether there is a wildcard, and how many declarations there are. A place is a record's index and one more; 0 is none. Only the names
 -- that the rules compare have ids, and only those that may be words or are judged byte by byte have codes.
-use Rattle.std.specs.Prelude.{ℕ, zero, suc, ◌+◌, Bool, true, false, ◌&&◌, List, [], ◌∷◌, ◌++◌, length, take, drop, replicate, eqb}
+use Rattle.std.specs.Prelude.{ℕ, zero, suc, ◌+◌, Bool, true, false, ◌&&◌, List, [], ◌∷◌, ◌++◌, length, take, drop, replicate}
 use Rattle.rules.specs.declared.span.Span.{Span}
 use Rattle.rules.specs.Words.{number_if, any_of, select, same_bytes}
 use Rattle.rules.specs.Kind
@@ -53,11 +53,11 @@ module _ {P : Type 0} where
   unfoldable pub import_in : List (Rec (List ℕ) P) → Rec (List ℕ) P → ℕ
   import_in rs r = number_if (any_of (λ q. is Kind.ImportedName q && same_name r q) rs) 1
 
-  -- the place of the type that stands directly after a newtype; the other declarations have none
+  -- the place of the type that stands directly after a declaration that renames it; the other declarations have none
   abbrev pub target_at : ℕ → List (Rec (List ℕ) P) → ℕ
   target_at place [] = 0
   target_at place (d ∷ []) = 0
-  target_at place (d ∷ t ∷ rs) = number_if (eqb d.sub Sub.Newtype && Kind.is_type t.kind) (suc place)
+  target_at place (d ∷ t ∷ rs) = number_if (Sub.is_renaming d.sub && Kind.is_type t.kind) (suc place)
 
   -- the place of the type that the record's name is declared with
   unfoldable pub target_in : List (Rec (List ℕ) P) → Rec (List ℕ) P → ℕ

@@ -8,7 +8,7 @@ use mathlib.Core.Bool.{Bool, false, ◌&&◌, true≢false}
 use mathlib.Core.List.{List, [], ◌∷◌}
 use mathlib.Core.Option.{some}
 use Rattle.rules.specs.declared.span.Span.{Span}
-use Rattle.rules.specs.Record.{Rec, is_of}
+use Rattle.rules.specs.Record.{Rec, is_renaming}
 use Rattle.rules.specs.Context.{ValidationContext, behind, chain_end, never_ends}
 use Rattle.rules.specs.Refusals.{leads_nowhere}
 use Rattle.rules.proofs.Chains.{is_some, none-there}
@@ -74,10 +74,10 @@ same-nowhere a b [] same = refl
 same-nowhere a b (t ∷ rs) same = sym (ap (leads_on a) (same.ends t) ∙ same.leads _)
 
 pub kept_nowhere : (sheet before table : List ℕ) (i n : ℕ) (b : Bool) → Kept sheet before table
-    → b ≡ (is_of 1 4 (view_at sheet i) && leads_nowhere (context_by table sheet) (view_of sheet (i + 1) n))
-    → b ≡ (is_of 1 4 (view_at sheet i) && leads_nowhere (context_by before sheet) (view_of sheet (i + 1) n))
+    → b ≡ (is_renaming (view_at sheet i) && leads_nowhere (context_by table sheet) (view_of sheet (i + 1) n))
+    → b ≡ (is_renaming (view_at sheet i) && leads_nowhere (context_by before sheet) (view_of sheet (i + 1) n))
 kept_nowhere sheet before table i n b kept e =
-    e ∙ ap (λ x. is_of 1 4 (view_at sheet i) && x) (same-nowhere _ _ (view_of sheet (i + 1) n) kept.same)
+    e ∙ ap (λ x. is_renaming (view_at sheet i) && x) (same-nowhere _ _ (view_of sheet (i + 1) n) kept.same)
 
 -- one more chain
 pub kept_through : (sheet a b c : List ℕ) → Kept sheet a b → Kept sheet b c → Kept sheet a c

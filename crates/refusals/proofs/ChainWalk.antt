@@ -9,7 +9,7 @@ use mathlib.Core.List.{List, [], ◌∷◌}
 use mathlib.Core.Option.{Option, some, none}
 use lib.ListN.{length}
 use Rattle.rules.specs.declared.span.Span.{Span}
-use Rattle.rules.specs.Record.{Rec, is_of}
+use Rattle.rules.specs.Record.{Rec, is_renaming}
 use Rattle.rules.specs.Context.{ValidationContext, never_ends}
 use Rattle.rules.specs.Refusals.{Fault, leads_nowhere, endless_chain}
 use Rattle.rules.proofs.Chains.{is_some}
@@ -23,17 +23,17 @@ module _ (table sheet : List ℕ) where
   ctx = context_by table sheet
 
   -- a newtype whose chain never ends
-  module _ (i n : ℕ) (newtype : Bool) (hn : newtype ≡ is_of 1 4 (view_at sheet i)) where
+  module _ (i n : ℕ) (newtype : Bool) (hn : newtype ≡ is_renaming (view_at sheet i)) where
     abbrev rest : Bool
     rest = leads_nowhere ctx (view_of sheet (i + 1) n)
 
-    pub other_ends : newtype ≡ false → false ≡ (is_of 1 4 (view_at sheet i) && rest)
+    pub other_ends : newtype ≡ false → false ≡ (is_renaming (view_at sheet i) && rest)
     other_ends f = rw (← hn, f)
 
-    pub last_ends : newtype ≡ true → n ≤ i + 1 → false ≡ (is_of 1 4 (view_at sheet i) && rest)
+    pub last_ends : newtype ≡ true → n ≤ i + 1 → false ≡ (is_renaming (view_at sheet i) && rest)
     last_ends t h = rw (← hn, t, view-none sheet (i + 1) n h)
 
-    pub newtype_walked : newtype ≡ true → (r : Bool) → i + 1 < n → r ≡ never_ends ctx (view_at sheet (i + 1)) → r ≡ (is_of 1 4 (view_at sheet i) && rest)
+    pub newtype_walked : newtype ≡ true → (r : Bool) → i + 1 < n → r ≡ never_ends ctx (view_at sheet (i + 1)) → r ≡ (is_renaming (view_at sheet i) && rest)
     newtype_walked t r h hr = rw (← hn, t, view-cons sheet (i + 1) n h) hr
 
   -- the first of them
@@ -41,7 +41,7 @@ module _ (table sheet : List ℕ) where
   chosen i n b = elim b [ true ↦ some (record { number = 9; index = i }) | false ↦ endless_chain ctx (suc i) (view_of sheet (i + 1) n) ]
 
   module _ (i n : ℕ) (b : Bool) (all : Option Fault) (inv : endless_chain ctx i (view_of sheet i n) ≡ all)
-      (hb : b ≡ (is_of 1 4 (view_at sheet i) && leads_nowhere ctx (view_of sheet (i + 1) n))) (h : i < n) where
+      (hb : b ≡ (is_renaming (view_at sheet i) && leads_nowhere ctx (view_of sheet (i + 1) n))) (h : i < n) where
     chain-turn : (c : Bool) → b ≡ c → chosen i n c ≡ all
     unfolding endless_chain
     chain-turn c e = ap (chosen i n) (sym e ∙ hb) ∙ sym (ap (endless_chain ctx i) (view-cons sheet i n h)) ∙ inv
@@ -62,12 +62,12 @@ module _ (table sheet : List ℕ) where
 
   -- no newtype is left
   endless-rest : (k i n : ℕ) (all : Option Fault) → n ≤ i + k → endless_chain ctx i (view_of sheet i n) ≡ all
-      → ((j : ℕ) → i ≤ j → j < n → is_of 1 4 (view_at sheet j) ≡ false) → none ≡ all
+      → ((j : ℕ) → i ≤ j → j < n → is_renaming (view_at sheet j) ≡ false) → none ≡ all
   endless-rest zero i n all h inv f = endless-none i n all inv (omega arith)
   endless-rest (suc k) i n all h inv f = go (endless-rest k (i + 1) n all) (dec_lt i n)
     where
       go : (n ≤ i + 1 + k → endless_chain ctx (i + 1) (view_of sheet (i + 1) n) ≡ all
-          → ((j : ℕ) → i + 1 ≤ j → j < n → is_of 1 4 (view_at sheet j) ≡ false) → none ≡ all) → Dec (i < n) → none ≡ all
+          → ((j : ℕ) → i + 1 ≤ j → j < n → is_renaming (view_at sheet j) ≡ false) → none ≡ all) → Dec (i < n) → none ≡ all
       go next (no l) = endless-none i n all inv (omega arith)
       go next (yes l) =
           next (omega arith) (endless_again i n false all inv (other_ends i n false (sym (f i (omega arith) l)) refl) l refl) (λ j a b. f j (omega arith) b)
@@ -80,7 +80,7 @@ module _ (table sheet : List ℕ) where
 pub endless-number : (a : ValidationContext ℕ Span) (i : ℕ) (rs : List (Rec ℕ Span)) (f : Fault) → endless_chain a i rs ≡ some f → f.number ≡ 9
 unfolding endless_chain
 endless-number a i [] f e = absurd (true≢false (sym (ap is_some e)))
-endless-number a i (r ∷ rs) f e = go (is_of 1 4 r && leads_nowhere a rs) (endless-number a (suc i) rs f) e
+endless-number a i (r ∷ rs) f e = go (is_renaming r && leads_nowhere a rs) (endless-number a (suc i) rs f) e
   where
     go :
         (b : Bool) → (endless_chain a (suc i) rs ≡ some f → f.number ≡ 9) →

@@ -11,7 +11,7 @@ use mathlib.Core.Option.{Option, some, none}
 use lib.ListN.{length, get_or, drop}
 use lib.Dec.{eqb}
 use Rattle.rules.specs.Words.{look_up}
-use Rattle.rules.specs.Record.{record_bytes, decode, kind_in, sub_in, is_of, records}
+use Rattle.rules.specs.Record.{record_bytes, decode, kind_in, sub_in, is_renaming, records}
 use Rattle.rules.specs.Grammar as Grammar
 use Rattle.rules.specs.Grammar.{Due}
 use Rattle.rules.specs.Refusals.{Fault, own_fault}
@@ -127,10 +127,10 @@ module _ (sheet : List ℕ) (end i : ℕ) (h : Ended sheet end i) where
   pub ends_here : Ended sheet (i + 1) (i + 1)
   ends_here = record { within = omega arith; none = λ j a b. absurd (omega arith) }
 
-  pub ends_after : (newtype : Bool) → newtype ≡ is_of 1 4 (view_at sheet i) → newtype ≡ false → Ended sheet end (i + 1)
+  pub ends_after : (newtype : Bool) → newtype ≡ is_renaming (view_at sheet i) → newtype ≡ false → Ended sheet end (i + 1)
   ends_after newtype hn f = record { within = omega (arith, h.within); none = λ j a b. none j a b (dec_lt j i) }
     where
-      none : (j : ℕ) → end ≤ j → j < i + 1 → Dec (j < i) → is_of 1 4 (view_at sheet j) ≡ false
+      none : (j : ℕ) → end ≤ j → j < i + 1 → Dec (j < i) → is_renaming (view_at sheet j) ≡ false
       none j a b (yes l) = h.none j a l
       none j a b (no l) = let same : j ≡ i = omega arith in rw same (sym hn ∙ f)
 

@@ -16,9 +16,8 @@ use Rattle.std.proofs.lemmas.Bool.{and_parts}
 use borrow.Author.Tests.{eqb-true, leb-true, le-ltb, not-false}
 use Rattle.rules.specs.Words.{within, look_up, any_of}
 use Rattle.rules.specs.Kind
-use Rattle.rules.specs.Sub
 use Rattle.rules.specs.Kind.{type, condition, operand}
-use Rattle.rules.specs.Record.{record_bytes, decode, kind_in, sub_in, clean_in, is_named_in, fits_in, name_offset, name_length, is_of, records}
+use Rattle.rules.specs.Record.{record_bytes, decode, kind_in, sub_in, clean_in, is_named_in, fits_in, name_offset, name_length, is_renaming, records}
 use Rattle.rules.specs.Grammar as Grammar
 use Rattle.rules.specs.Grammar.{Due, due_at, none_due, lifted, step, context_step, field_list_step, field_step, type_step, part_step}
 use Rattle.rules.specs.Refusals.{own_fault}
@@ -144,7 +143,7 @@ module _ (is_in : ℕ → Bool) (quiet : (kind : ℕ) → is_in kind ≡ true �
   unfolding view_at
   run-ended end h = record { within = omega (arith, h.within); none = λ j a b. by j a b (dec_lt j i) }
     where
-      by : (j : ℕ) → end ≤ j → j < r → Dec (j < i) → is_of Kind.Declaration Sub.Newtype (view_at sheet j) ≡ false
+      by : (j : ℕ) → end ≤ j → j < r → Dec (j < i) → is_renaming (view_at sheet j) ≡ false
       by j a b (yes l) = h.none j a l
       by j a b (no l) = rw (quiet (kind_in (record_bytes sheet j)) (plain j (omega arith) b).kind).other refl
 

@@ -2,8 +2,7 @@
 use Rattle.std.specs.Prelude.{ℕ, suc, ◌/◌, ◌<◌, ◌≤◌, ◌≡◌, Bool, true, false, not, ◌&&◌, List, [], ◌∷◌, length, Result, Ok, Err, eqb}
 use Rattle.std.proofs.Math.Option.{Option, some, none}
 use Rattle.rules.specs.Kind
-use Rattle.rules.specs.Sub
-use Rattle.rules.specs.Record.{Rec, is, is_of, record_size}
+use Rattle.rules.specs.Record.{Rec, is, is_renaming, record_size}
 use Rattle.rules.specs.Grammar as Grammar
 use Rattle.rules.specs.Refusals.{Fault, own_fault}
 use Rattle.rules.specs.Answer.{number_of}
@@ -40,7 +39,7 @@ fault_of why = record { number = number_of why.refusal; index = why.index }
 -- of the records before record i those from `end` on are no newtypes
 pub record Ended (sheet : List ℕ) (end i : ℕ) : Type 0 where
   pub within : end ≤ i
-  pub none : (j : ℕ) → end ≤ j → j < i → is_of Kind.Declaration Sub.Newtype (view_at sheet j) ≡ false
+  pub none : (j : ℕ) → end ≤ j → j < i → is_renaming (view_at sheet j) ≡ false
 
 -- what the pass finds
 abbrev pub passed_of : Result ℕ Refused → Option Fault

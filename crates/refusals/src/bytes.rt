@@ -1,6 +1,6 @@
 // The bytes of a record that the sheet has, and the numbers in them.
 ghost use Rattle.std.specs.Prelude.{◌≡◌, ◌+◌, ◌/◌, ◌<◌, length};
-ghost use Rattle.rules.specs.Record.{number_at, name_length, name_offset, record_bytes, is_of};
+ghost use Rattle.rules.specs.Record.{number_at, name_length, name_offset, record_bytes, is_renaming};
 ghost use Rattle.names.specs.View.{view_at};
 
 use rules::Sheet;
@@ -35,10 +35,10 @@ pub fn name_end(bytes: &[u8; Sheet::RECORD]) -> usize
     offset as usize + usize::from(bytes[2])
 }
 
-// Whether record `i` is a newtype that is declared.
+// Whether record `i` is a known declaration that renames a type.
 #[tactic(auto, unfolding(names::specs::View::view_at))]
-pub fn is_newtype(sheet: &[u8], i: usize) -> bool
-    ensures { result ≡ is_of 1 4 (view_at sheet.now i) }
+pub fn is_renaming(sheet: &[u8], i: usize) -> bool
+    ensures { result ≡ is_renaming (view_at sheet.now i) }
 {
-    (sheet::kind(sheet, i) == kinds::DECLARATION) && (sheet::sub(sheet, i) == subs::NEWTYPE)
+    (sheet::kind(sheet, i) == kinds::DECLARATION) && subs::is_renaming(sheet::sub(sheet, i))
 }

@@ -8,7 +8,7 @@
 // The table is lent by `&mut`, so that a context of it and the sheet is made where one is asked for. What lasts of the table each function hands to its caller: a
 // type of the table and the sheet would hold the table by `&mut`, and each function would have these clauses all the same.
 ghost use Rattle.std.specs.Prelude.{◌≡◌, ◌&&◌, ◌+◌, ◌/◌, ◌≤◌, ◌<◌, length};
-ghost use Rattle.rules.specs.Record.{record_size, is_of};
+ghost use Rattle.rules.specs.Record.{record_size, is_renaming};
 ghost use Rattle.rules.specs.Context as Context;
 ghost use Rattle.rules.specs.Refusals.{max_length, max_records, leads_nowhere};
 ghost use Rattle.names.specs.View.{max_place, view_at, view_of, context_by};
@@ -17,7 +17,7 @@ ghost use Rattle.refusals.specs.Pass.{Ended, verdict_of};
 ghost use Rattle.refusals.specs.Turned.{endless_by};
 ghost use Rattle.refusals.specs.Ends.{EndsAt, Kept};
 
-use crate::bytes::is_newtype;
+use crate::bytes::is_renaming;
 use crate::order::refused_at;
 use names::{NameTable, ValidationContext};
 use rules::{Refusal, Refused};
@@ -63,10 +63,10 @@ fn never_ends(sheet: &[u8], table: &mut NameTable, t: usize) -> bool
 #[tactic(auto, using(crate::proofs::ChainWalk::other_ends, crate::proofs::ChainWalk::last_ends, crate::proofs::ChainWalk::newtype_walked, crate::proofs::ChainEnds::kept_itself))]
 fn is_endless(sheet: &[u8], table: &mut NameTable, i: usize, n: usize) -> bool
     requires { Lasting (context_by table.old sheet.now) × (i < n) × (n ≤ max_records) }
-    ensures told { result ≡ (is_of 1 4 (view_at sheet.now i) && leads_nowhere (context_by table.old sheet.now) (view_of sheet.now (i + 1) n)) }
+    ensures told { result ≡ (is_renaming (view_at sheet.now i) && leads_nowhere (context_by table.old sheet.now) (view_of sheet.now (i + 1) n)) }
     ensures kept { Kept sheet.now table.old table.new }
 {
-    is_newtype(sheet, i) && i + 1 < n && never_ends(sheet, table, i + 1)
+    is_renaming(sheet, i) && i + 1 < n && never_ends(sheet, table, i + 1)
 }
 
 // The first newtype whose chain never ends. The newtypes end at `end`.

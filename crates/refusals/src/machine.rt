@@ -99,7 +99,7 @@ impl State {
         requires { due.old ≡ [] }
         ensures { state_of self.new due.new ≡ Grammar.context_item (bare kind sub) }
     {
-        if (kind == kinds::DECLARATION) & (sub == subs::NEWTYPE) {
+        if (kind == kinds::DECLARATION) & subs::is_renaming(sub) {
             return self.enter_type(due, Body::Context);
         }
         self.enter(Body::Context)

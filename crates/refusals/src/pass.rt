@@ -10,7 +10,7 @@ ghost use Rattle.refusals.specs.Due.{bare};
 ghost use Rattle.refusals.specs.States.{state_of, step_of};
 ghost use Rattle.refusals.specs.Pass.{is_second, or_second, record_step_by, first_fault_by, Ended, passed_of, EndSound};
 
-use crate::bytes::{is_newtype, record};
+use crate::bytes::{is_renaming, record};
 use crate::due::Due;
 use crate::order::{refused_at, told_at};
 use crate::own::own_fault;
@@ -73,7 +73,7 @@ fn newtypes_end(sheet: &[u8], end: usize, i: usize) -> usize
     requires { Ended sheet.now end i × (i < max_records) }
     ensures { Ended sheet.now result (i + 1) }
 {
-    if is_newtype(sheet, i) {
+    if is_renaming(sheet, i) {
         return i + 1;
     }
     end

@@ -13,7 +13,7 @@ use Rattle.std.proofs.lemmas.Bool.{or_cases}
 use Rattle.rules.specs.Words.{within, any_of, only_if}
 use Rattle.rules.specs.Kind
 use Rattle.rules.specs.Sub
-use Rattle.rules.specs.Record.{Rec, is, is_of}
+use Rattle.rules.specs.Record.{Rec, is, is_renaming}
 use Rattle.rules.specs.Grammar.{Step, to, fault, State, context, message, enum, flags, union, newtype, TypeState, type_step, no_type, start, done, opened, step, context_step, context_item, starts_context_item, none_due, between, unbacked, outside, type_due, field_list_step, enum_step, union_step, starts_item, starts_field_item}
 use Rattle.rules.specs.Refusals.{Fault, own_fault, record_step, first_fault}
 use Rattle.rules.proofs.Machine.{to-inj, guarded-to, lifted-to, reads, reads_on, reads-kinds}
@@ -165,7 +165,7 @@ module _ {N P : Type 0} where
       go true b e d =
           let k = within-true 1 3 r.kind e in
           let g = guarded-to (none_due s.due) (to (context_item r)) (rw (e, context_step) at h) in
-          goes_on (elim (is_of Kind.Declaration Sub.Newtype r) [ true ↦ type_due | false ↦ no_type ])
+          goes_on (elim (is_renaming r) [ true ↦ type_due | false ↦ no_type ])
           (within-false 10 16 r.kind (λ p q. omega arith))
           (sym (to-inj g.1))
       go false true e d =

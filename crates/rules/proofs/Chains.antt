@@ -157,29 +157,29 @@ module _ {P : Type 0} where
       go true false false ih p q h = ih p q (omega arith)
       go false s t ih p q h = ih p q h
 
--- only a newtype has an inner type
+-- only a declaration that renames a type has an inner type
 module _ {P : Type 0} where
-  abbrev OnlyNewtype : Option (Declared (List ℕ) P) → Type 0
-  OnlyNewtype none = Unit {0}
-  OnlyNewtype (some d) = is_some d.inner ≡ true → d.sub ≡ Sub.Newtype
+  abbrev OnlyRenaming : Option (Declared (List ℕ) P) → Type 0
+  OnlyRenaming none = Unit {0}
+  OnlyRenaming (some d) = is_some d.inner ≡ true → Sub.is_renaming d.sub ≡ true
 
-  inner-newtype : (sub : ℕ) (rs : List (Rec (List ℕ) P)) → is_some (inner_of sub rs) ≡ true → sub ≡ Sub.Newtype
-  inner-newtype sub [] h = cc
-  inner-newtype sub (t ∷ rs) h = go (eqb sub Sub.Newtype) (Kind.is_type t.kind) refl h
+  inner-renaming : (sub : ℕ) (rs : List (Rec (List ℕ) P)) → is_some (inner_of sub rs) ≡ true → Sub.is_renaming sub ≡ true
+  inner-renaming sub [] h = cc
+  inner-renaming sub (t ∷ rs) h = go (Sub.is_renaming sub) (Kind.is_type t.kind) refl h
     where
-      go : (b c : Bool) → eqb sub Sub.Newtype ≡ b → is_some {A = Rec (List ℕ) P} (elim (b && c) [ true ↦ some t | false ↦ none ]) ≡ true
-          → sub ≡ Sub.Newtype
-      go true c e p = eqb-true sub Sub.Newtype e
+      go : (b c : Bool) → Sub.is_renaming sub ≡ b → is_some {A = Rec (List ℕ) P} (elim (b && c) [ true ↦ some t | false ↦ none ]) ≡ true
+          → Sub.is_renaming sub ≡ true
+      go true c e p = e
       go false c e p = cc
 
-  only-newtype : (rs : List (Rec (List ℕ) P)) (name : List ℕ) → OnlyNewtype (declared rs name)
+  only-renaming : (rs : List (Rec (List ℕ) P)) (name : List ℕ) → OnlyRenaming (declared rs name)
   unfolding declared
-  only-newtype [] name = tt
-  only-newtype (r ∷ rs) name = go (is Kind.Declaration r && same_bytes r.name name) (only-newtype rs name)
+  only-renaming [] name = tt
+  only-renaming (r ∷ rs) name = go (is Kind.Declaration r && same_bytes r.name name) (only-renaming rs name)
     where
-      go : (b : Bool) → OnlyNewtype (declared rs name)
-          → OnlyNewtype (elim b [ true ↦ some (record { sub = r.sub; inner = inner_of r.sub rs }) | false ↦ declared rs name ])
-      go true ih = inner-newtype r.sub rs
+      go : (b : Bool) → OnlyRenaming (declared rs name)
+          → OnlyRenaming (elim b [ true ↦ some (record { sub = r.sub; inner = inner_of r.sub rs }) | false ↦ declared rs name ])
+      go true ih = inner-renaming r.sub rs
       go false ih = ih
 
 module _ {N P : Type 0} (ctx : ValidationContext N P) where
@@ -339,13 +339,13 @@ module _ {P : Type 0} (rs : List (Rec (List ℕ) P)) where
   -- a type from which a chain goes on is no bad key
   on-good : (t : Rec (List ℕ) P) → is_some (behind ctx t) ≡ true → bad_end ctx t ≡ false
   unfolding behind context_of bad_end
-  on-good t = go (is Kind.Named t) refl (declared rs t.name) refl (only-newtype rs t.name)
+  on-good t = go (is Kind.Named t) refl (declared rs t.name) refl (only-renaming rs t.name)
     where
-      go : (b : Bool) → is Kind.Named t ≡ b → (o : Option (Declared (List ℕ) P)) → declared rs t.name ≡ o → OnlyNewtype o
+      go : (b : Bool) → is Kind.Named t ≡ b → (o : Option (Declared (List ℕ) P)) → declared rs t.name ≡ o → OnlyRenaming o
           → is_some {A = Rec (List ℕ) P} (elim b [ true ↦ elim o [ none ↦ none | some d ↦ d.inner ] | false ↦ none ]) ≡ true
           → bad_end ctx t ≡ false
       go true e none e' n h = cc
-      go true e (some d) e' n h = rw (eqb-true t.kind Kind.Named e, e', declared_as, n h)
+      go true e (some d) e' n h = rw (eqb-true t.kind Kind.Named e, e', declared_as, eqb-true d.sub Sub.Newtype (n h))
       go false e o e' n h = cc
 
   -- whether a key is bad does not depend on the bound

@@ -12,7 +12,7 @@ use Rattle.std.proofs.lemmas.Bool.{or_parts}
 use Rattle.rules.specs.Words.{within, any_of, front, rest, first_is, same_bytes, items}
 use Rattle.rules.specs.Kind
 use Rattle.rules.specs.Sub
-use Rattle.rules.specs.Record.{Rec, is, is_of}
+use Rattle.rules.specs.Record.{Rec, is, is_renaming}
 use Rattle.rules.specs.Context.{ValidationContext, context_of, declared, inner_of, word_from, words, is_blank, valid_field_name}
 use Rattle.rules.specs.Grammar.{start, starts_field_item, starts_item}
 use Rattle.rules.specs.Items.{lead_of, items_of, starts_item_of}
@@ -101,7 +101,7 @@ module _ {N P : Type 0} where
   unfolding endless_chain
   endless-before ctx i [] ys h e k = rw (e, endless_chain) (endless-none ctx (suc i) ys k)
   endless-before ctx i (x ∷ xs) ys h e k =
-      λ j. elim (is_of Kind.Declaration Sub.Newtype x && nowhere-before ctx xs ys h j) [
+      λ j. elim (is_renaming x && nowhere-before ctx xs ys h j) [
         | true ↦ some (record { number = 9; index = i })
         | false ↦ endless-before ctx (suc i) xs ys h e k j
       ]

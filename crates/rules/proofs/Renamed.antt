@@ -9,8 +9,7 @@ use lib.Dec.{eqb}
 use borrow.Author.Tests.{eqb-true}
 use Rattle.rules.specs.Words.{any_of, member}
 use Rattle.rules.specs.Kind
-use Rattle.rules.specs.Sub
-use Rattle.rules.specs.Record.{Rec, is, is_of}
+use Rattle.rules.specs.Record.{Rec, is, is_renaming}
 use Rattle.rules.specs.Asked.{is_compared, is_worded, is_spelled}
 use Rattle.rules.specs.Context.{ValidationContext, Declared, declared_as, behind, chain_end, never_ends}
 use Rattle.rules.specs.Refusals.{Fault, leads_nowhere, endless_chain}
@@ -188,7 +187,7 @@ module _ {M N P : Type 0} {g : M → N} {Good Worded Spelled : M → Type 0} {ct
   unfolding endless_chain
   endless-renamed i every-nil = refl
   endless-renamed i (every-cons {x} w h) =
-      λ t. elim (is_of Kind.Declaration Sub.Newtype x && leads-renamed h t) as (λ b. Option Fault) [
+      λ t. elim (is_renaming x && leads-renamed h t) as (λ b. Option Fault) [
         | true ↦ some (record { number = 9; index = i })
         | false ↦ endless-renamed (suc i) h t
       ]

@@ -9,9 +9,7 @@ use mathlib.Core.List.{List, [], ◌∷◌, ◌++◌}
 use mathlib.Core.Option.{Option, some, none}
 use lib.ListN.{length}
 use Rattle.std.proofs.lemmas.Bool.{and_parts}
-use Rattle.rules.specs.Kind
-use Rattle.rules.specs.Sub
-use Rattle.rules.specs.Record.{Rec, is_of}
+use Rattle.rules.specs.Record.{Rec, is_renaming}
 use Rattle.rules.specs.Context.{ValidationContext, never_ends}
 use Rattle.rules.specs.Refusals.{Fault, leads_nowhere, endless_chain}
 use Rattle.rules.specs.Refused.{NewtypeIn}
@@ -40,15 +38,15 @@ module _ {N P : Type 0} (ctx : ValidationContext N P) where
     all_end : RowNine i rs none
     ring : (index : ℕ) → Ring i rs index → RowNine i rs (some (record { number = 9; index = index }))
 
-  ring-here : (i : ℕ) (r : Rec N P) (rs : List (Rec N P)) → (is_of Kind.Declaration Sub.Newtype r && leads_nowhere ctx rs) ≡ true
+  ring-here : (i : ℕ) (r : Rec N P) (rs : List (Rec N P)) → (is_renaming r && leads_nowhere ctx rs) ≡ true
       → Ring i (r ∷ rs) i
-  ring-here i r [] h = absurd (true≢false (sym (and_parts (is_of Kind.Declaration Sub.Newtype r) false h).1))
+  ring-here i r [] h = absurd (true≢false (sym (and_parts (is_renaming r) false h).1))
   ring-here i r (t ∷ rs) h =
-      let declares = (and_parts (is_of Kind.Declaration Sub.Newtype r) (never_ends ctx t) h).0 in
+      let declares = (and_parts (is_renaming r) (never_ends ctx t) h).0 in
       record {
         newtype = record { before = []; declaration = r; inner = t; after = rs; split = refl; kind = declares };
         place = omega arith;
-        endless = (and_parts (is_of Kind.Declaration Sub.Newtype r) (never_ends ctx t) h).1;
+        endless = (and_parts (is_renaming r) (never_ends ctx t) h).1;
       }
 
   ring-later : (i : ℕ) (r : Rec N P) (rs : List (Rec N P)) {o : Option Fault} → RowNine (suc i) rs o → RowNine i (r ∷ rs) o
@@ -59,9 +57,9 @@ module _ {N P : Type 0} (ctx : ValidationContext N P) where
   pub row-nine : (i : ℕ) (rs : List (Rec N P)) → RowNine i rs (endless_chain ctx i rs)
   unfolding endless_chain
   row-nine i [] = all_end
-  row-nine i (r ∷ rs) = go (is_of Kind.Declaration Sub.Newtype r && leads_nowhere ctx rs) refl (ring-later i r rs (row-nine (suc i) rs))
+  row-nine i (r ∷ rs) = go (is_renaming r && leads_nowhere ctx rs) refl (ring-later i r rs (row-nine (suc i) rs))
     where
-      go : (b : Bool) → (is_of Kind.Declaration Sub.Newtype r && leads_nowhere ctx rs) ≡ b → RowNine i (r ∷ rs) (endless_chain ctx (suc i) rs)
+      go : (b : Bool) → (is_renaming r && leads_nowhere ctx rs) ≡ b → RowNine i (r ∷ rs) (endless_chain ctx (suc i) rs)
           → RowNine i (r ∷ rs) (elim b [ true ↦ some (record { number = 9; index = i }) | false ↦ endless_chain ctx (suc i) rs ])
       go true e later = ring i (ring-here i r rs e)
       go false e later = later
@@ -75,13 +73,13 @@ pub record NotAfter (index : ℕ) (o : Option Fault) : Type 0 where
 module _ {N P : Type 0} (ctx : ValidationContext N P) where
   -- no such newtype is passed over
   first-ring : (i : ℕ) (before after : List (Rec N P)) (declaration inner : Rec N P)
-      → is_of Kind.Declaration Sub.Newtype declaration ≡ true → never_ends ctx inner ≡ true
+      → is_renaming declaration ≡ true → never_ends ctx inner ≡ true
       → NotAfter (i + length before) (endless_chain ctx i (before ++ declaration ∷ inner ∷ after))
   unfolding endless_chain
   first-ring i [] after declaration inner d e =
       rw (d, e, endless_chain) (record { fault = record { number = 9; index = i }; found = refl; bound = omega arith })
   first-ring i (r ∷ before) after declaration inner d e =
-      go (is_of Kind.Declaration Sub.Newtype r && leads_nowhere ctx (before ++ declaration ∷ inner ∷ after))
+      go (is_renaming r && leads_nowhere ctx (before ++ declaration ∷ inner ∷ after))
       (first-ring (suc i) before after declaration inner d e)
     where
       go : (b : Bool) {o : Option Fault} → NotAfter (suc i + length before) o

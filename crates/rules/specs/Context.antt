@@ -6,7 +6,7 @@ use Rattle.rules.specs.Kind
 use Rattle.rules.specs.Sub
 use Rattle.rules.specs.Record.{Rec, is}
 
--- a known declaration: its sub, and the first record of its own type, which only a newtype has
+-- a known declaration: its sub, and the first record of its own type, which only one that renames a type has
 pub record Declared (N P : Type 0) : Type 0 where
   pub sub : ℕ
   pub inner : Option (Rec N P)
@@ -77,10 +77,10 @@ is_blank [] = true
 is_blank (b ∷ bs) = false
 
 module _ {P : Type 0} where
-  -- the type that stands directly after a newtype; the other declarations have none
+  -- the type that stands directly after a declaration that renames it; the other declarations have none
   abbrev pub inner_of : ℕ → List (Rec (List ℕ) P) → Option (Rec (List ℕ) P)
   inner_of sub [] = none
-  inner_of sub (t ∷ rs) = elim (eqb sub Sub.Newtype && Kind.is_type t.kind) [ true ↦ some t | false ↦ none ]
+  inner_of sub (t ∷ rs) = elim (Sub.is_renaming sub && Kind.is_type t.kind) [ true ↦ some t | false ↦ none ]
 
   -- the first declaration of a name
   unfoldable pub declared : List (Rec (List ℕ) P) → List ℕ → Option (Declared (List ℕ) P)

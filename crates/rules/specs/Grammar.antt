@@ -5,7 +5,7 @@ use Rattle.rules.specs.Words.{within}
 use Rattle.rules.specs.Kind
 use Rattle.rules.specs.Kind.{Part, type, condition, operand}
 use Rattle.rules.specs.Sub
-use Rattle.rules.specs.Record.{Rec, is, is_of}
+use Rattle.rules.specs.Record.{Rec, is, is_renaming}
 
 -- a step of the machine: to a state, or a fault by the number of its row
 pub data Step (S : Type 0) : Type 0 where
@@ -201,7 +201,7 @@ module _ {N P : Type 0} where
 
   -- "A kind 1 of sub 4 is followed by its inner type"
   abbrev pub context_item : Rec N P → State
-  context_item r = context (elim (is_of Kind.Declaration Sub.Newtype r) [ true ↦ type_due | false ↦ no_type ])
+  context_item r = context (elim (is_renaming r) [ true ↦ type_due | false ↦ no_type ])
 
   abbrev pub starts_context_item : Rec N P → Bool
   starts_context_item r = within Kind.Declaration Kind.Wildcard r.kind

@@ -7,6 +7,7 @@ use Rattle.std.specs.Float.{binary64}
 use Rattle.rules.specs.declared.span.Span.{Span}
 use Rattle.rules.specs.Words.{number_if, only_if, number}
 use Rattle.rules.specs.Kind
+use Rattle.rules.specs.Sub
 
 -- A record whose name is an N and whose places are P's. Read from bytes, a name is its bytes and a place is a span.
 -- `clean`: byte 3 is 0. `fits`: the name part ends within the names text (row 4).
@@ -134,3 +135,7 @@ module _ {N P : Type 0} where
   -- the record is of that kind and that sub
   abbrev pub is_of : ℕ → ℕ → Rec N P → Bool
   is_of k s r = eqb r.kind k && eqb r.sub s
+
+  -- the record is a known declaration that renames a type
+  abbrev pub is_renaming : Rec N P → Bool
+  is_renaming r = is Kind.Declaration r && Sub.is_renaming r.sub

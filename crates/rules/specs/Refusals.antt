@@ -3,8 +3,7 @@ use Rattle.std.specs.Prelude.{ℕ, suc, ◌/◌, ◌%◌, Bool, true, false, not
 use Rattle.std.proofs.Math.Option.{Option, some, none}
 use Rattle.rules.specs.Words.{only_if, first, any_of}
 use Rattle.rules.specs.Kind
-use Rattle.rules.specs.Sub
-use Rattle.rules.specs.Record.{Rec, is, is_of, record_size, records}
+use Rattle.rules.specs.Record.{Rec, is, is_renaming, record_size, records}
 use Rattle.rules.specs.Context.{ValidationContext, context_of, never_ends}
 use Rattle.rules.specs.Grammar.{Step, to, fault, State, step, done, start}
 
@@ -72,7 +71,7 @@ module _ {N P : Type 0} where
   unfoldable pub endless_chain : ValidationContext N P → ℕ → List (Rec N P) → Option Fault
   endless_chain ctx i [] = none
   endless_chain ctx i (r ∷ rs) =
-      elim (is_of Kind.Declaration Sub.Newtype r && leads_nowhere ctx rs) [
+      elim (is_renaming r && leads_nowhere ctx rs) [
         | true ↦ some (record { number = 9; index = i })
         | false ↦ endless_chain ctx (suc i) rs
       ]

@@ -1,5 +1,6 @@
 -- The subs that the rules name, by their numbers: counted from 0 in the Rust's order.
-use Rattle.std.specs.Prelude.{ℕ}
+use Rattle.std.specs.Prelude as std
+use Rattle.std.specs.Prelude.{ℕ, eqb}
 
 -- of a known declaration, as `DeclKind`
 abbrev pub Message : ℕ
@@ -16,6 +17,10 @@ Config = 5
 
 abbrev pub Const : ℕ
 Const = 7
+
+-- a declaration of that sub renames the type that stands directly after it
+abbrev pub is_renaming : ℕ → std.Bool
+is_renaming sub = eqb sub Newtype
 
 -- of a head
 abbrev pub MessageHead : ℕ

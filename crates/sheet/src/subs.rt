@@ -1,5 +1,8 @@
 // The subs that the code names, by the record that has them. They are numbers and no enums: `sheet::sub` gives any byte, and what a sub says depends on the kind
 // beside it; `is_named` and `types::is_declared_as`, which are public, take any.
+ghost use Rattle.std.specs.Prelude.{◌≡◌};
+ghost use Rattle.rules.specs.Sub;
+
 // Of a primitive type.
 pub const BOOL: u8 = 0;
 
@@ -72,3 +75,10 @@ pub const STRING_OPERAND: u8 = 2;
 pub const BOOL_OPERAND: u8 = 3;
 
 pub const CONST_REF: u8 = 5;
+
+// Whether a declaration of that sub renames the type that stands directly after it.
+pub fn is_renaming(sub: u8) -> bool
+    ensures { result ≡ Sub.is_renaming sub }
+{
+    sub == NEWTYPE
+}
