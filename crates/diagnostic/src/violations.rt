@@ -1,11 +1,13 @@
 // The violations of a check so far: in the list that the caller lends those that fit it, and the counts of all.
-ghost use Rattle.std.specs.Prelude.{◌≡◌};
-ghost use Rattle.rules.specs.Record.{record_bytes, span_in};
+ghost use Rattle.std.specs.Prelude.{◌≡◌, true};
+ghost use Rattle.rules.specs.Record.{record_bytes, span_in, ordinal_span_in};
+ghost use Rattle.rules.specs.Rule.{found_if};
+ghost use Rattle.rules.specs.RuleNumber.{rule_number};
 ghost use Rattle.diagnostic.specs.Push.{push_one, push_if};
-ghost use Rattle.diagnostic.specs.Violations.{state_of, Changes};
+ghost use Rattle.diagnostic.specs.Violations.{state_of, Changes, Adds};
 
 use crate::list::{count_one, store};
-use rules::{Counts, Violation};
+use rules::{Counts, Rule, Span, Violation};
 
 #[derive(Drop)]
 pub struct Violations<'a> {
@@ -53,6 +55,33 @@ impl<'a> Violations<'a> {
     {
         if bad {
             self.push(Violation::error(sheet::span(sheet, i), class));
+        }
+    }
+    // Tells the rule at that span.
+    #[tactic(auto, unfolding(crate::specs::Push::push_all, crate::specs::Push::push_found))]
+    fn tell(&mut self, span: Span, rule: Rule)
+        ensures { Adds self.old self.new (found_if (rule_number rule) true span) }
+    {
+        self.push(rule.violation_at(span));
+    }
+
+    // Tells the rule at record `i` if `bad`. The span is read only where it is told.
+    #[tactic(auto, using(crate::proofs::Added::adds_none))]
+    pub fn tell_if(&mut self, bad: bool, sheet: &[u8], i: usize, rule: Rule)
+        ensures { Adds self.old self.new (found_if (rule_number rule) bad (span_in (record_bytes sheet.now i))) }
+    {
+        if bad {
+            self.tell(sheet::span(sheet, i), rule);
+        }
+    }
+
+    // Tells the rule at the ordinal of record `i` if `bad`.
+    #[tactic(auto, using(crate::proofs::Added::adds_none))]
+    pub fn tell_ordinal_if(&mut self, bad: bool, sheet: &[u8], i: usize, rule: Rule)
+        ensures { Adds self.old self.new (found_if (rule_number rule) bad (ordinal_span_in (record_bytes sheet.now i))) }
+    {
+        if bad {
+            self.tell(sheet::ordinal_span(sheet, i), rule);
         }
     }
 }

@@ -1,6 +1,6 @@
 -- Every definition of document 01, in its order: what a reader of the promises must believe.
--- Words: Words. The sheet: Kind, Sub, Record, Used, Context. Turned down: Grammar, Refusals. The rules: Rule, Types, Annotations,
--- Conditions, Bodies. What a caller gets: Answer, Buffer, Printed. The cases that document 01 marks: Table.
+-- Words: Words. The sheet: Kind, Sub, Record, Used, Context. Turned down: Grammar, Refusals. The rules: Rule, RuleNumber, Types,
+-- Annotations, Conditions, Bodies. What a caller gets: Answer, Buffer, Printed. The cases that document 01 marks: Table.
 -- What demand 3 speaks of: Items. What demands 1 and 2 say of refusals: Refused.
 -- Beside them, and said in no promise of an answer: which names a table must know, Asked.
 pub mod Words
@@ -12,6 +12,7 @@ pub mod Context
 pub mod Grammar
 pub mod Refusals
 pub mod Rule
+pub mod RuleNumber
 pub mod Types
 pub mod Annotations
 pub mod Conditions

@@ -4,12 +4,14 @@
 
 mod answer;
 mod range;
+mod rule;
 mod sheet;
 mod span;
 mod violation;
 
 pub use answer::{Answer, AnswerValues, Counts, Refusal, Refused};
 pub use range::RecordRange;
+pub use rule::Rule;
 pub use sheet::Sheet;
 pub use span::Span;
 pub use violation::Violation;
