@@ -1,6 +1,6 @@
 -- Rule 33: a backing is too narrow if some variant's ordinal is over the greatest that it holds.
 use Prim.Native.Nat.{ℕ, zero, suc, ◌+◌, ◌-◌, ◌<◌, ◌≤◌}
-use mathlib.Core.Path.{◌≡◌, refl, sym, ap, ◌∙◌}
+use mathlib.Core.Path.{◌≡◌, refl, sym, ap, subst, ◌∙◌}
 use mathlib.Core.Bool.{Bool, true, false, not, ◌&&◌, ◌||◌, or-false, or-true}
 use mathlib.Core.List.{List, [], ◌∷◌, ◌++◌, flat_map}
 use native.Mathlib.Decide.{ℕ_discrete}
@@ -13,17 +13,17 @@ use Rattle.rules.specs.Kind
 use Rattle.rules.specs.Record.{Rec, is, record_bytes, kind_in, sub_in, value_in, span_in}
 use Rattle.rules.specs.Context.{ValidationContext}
 use Rattle.rules.specs.Grammar.{starts_item}
-use Rattle.rules.specs.Rule.{rule_row, error, EnumBackingTooNarrow}
+use Rattle.rules.specs.Rule.{Found, found_if}
 use Rattle.rules.specs.Bodies.{used, retired, used_ordinal, used_ordinals, is_member, is_tombstone, slots, body_items, backing_max, backing_violations, enum_scheme, list_violations, enum_violations}
 use Rattle.rules.proofs.ItemCounts.{any-slots}
 use Rattle.names.specs.View.{view_at, view_of}
 use Rattle.diagnostic.specs.declared.violations.Violations.{Violations}
-use Rattle.diagnostic.specs.Push.{push_if}
-use Rattle.diagnostic.specs.Violations.{state_of, Adds}
-use Rattle.diagnostic.proofs.Added.{adds_none, adds_then, adds_if}
+use Rattle.diagnostic.specs.Violations.{Adds}
+use Rattle.diagnostic.proofs.Added.{adds_none, adds_then}
 use Rattle.types.proofs.Views.{view-cons, view-none}
 use Rattle.annotations.proofs.Asked.{SomeFrom}
 use Rattle.bodies.specs.Backing.{narrow_found, backings_from}
+use Rattle.bodies.specs.VariantParts.{at_variant}
 use Rattle.bodies.proofs.BodyItems.{item-member, no_item}
 
 module _ (p : ℕ → Bool) where
@@ -102,12 +102,10 @@ module _ (sheet : List ℕ) (i a e k : ℕ) (old : Violations) (kind : k ≡ kin
 
   pub rule-33 :
       (sub max : ℕ) (bad : Bool) (now : Violations) → k ≡ Kind.Backing → sub ≡ sub_in (record_bytes sheet i) → max ≡ backing_max sub →
-      bad ≡ any_used (ltb max) (view_of sheet a e) → now.list.ghost_name ≡ old.list.ghost_name →
-      state_of now ≡ push_if bad (record { class = EnumBackingTooNarrow; severity = error; span = span_in (record_bytes sheet i) }) (state_of old) →
+      bad ≡ any_used (ltb max) (view_of sheet a e) → Adds old now (found_if 33 bad (span_in (record_bytes sheet i))) →
       Adds old now (narrow_found (view_of sheet a e) (view_at sheet i))
-  unfolding view_at narrow_found rule_row
-  rule-33 sub max bad now h read greatest test reference state =
-      rw (narrow_found, ← kind, eq-eqb k Kind.Backing h, ← read, ← greatest, ← test) (adds_if 33 bad _ old now reference state)
+  unfolding view_at narrow_found
+  rule-33 sub max bad now h read greatest test told = rw (narrow_found, ← kind, eq-eqb k Kind.Backing h, ← read, ← greatest, ← test) told
 
 -- what is found at the records that pass a test is found record by record
 flat_map-select :
@@ -127,9 +125,18 @@ backings-all : {N P : Type 0} (ctx : ValidationContext N P) (body : List (Rec N 
 unfolding narrow_found
 backings-all ctx body = flat_map-select (is Kind.Backing) _ body
 
+-- nothing is found by a variant's parts
+no-parts : {P : Type 0} (variant : Bool) → ◌≡◌ {A = List (Found P)} (only_if variant []) []
+no-parts true = refl
+no-parts false = refl
+
 -- the variants, and then the backing
 pub enum-found :
     (ctx : ValidationContext ℕ Span) (body : List (Rec ℕ Span)) (old mid now : Violations) →
-    Adds old mid (list_violations ctx enum_scheme (λ it. []) (body_items body)) → Adds mid now (backings_from body body) → Adds old now (enum_violations ctx body)
+    Adds old mid (list_violations ctx enum_scheme (at_variant (λ rs. [])) (body_items body)) → Adds mid now (backings_from body body) →
+    Adds old now (enum_violations ctx body)
 unfolding enum_violations
-enum-found ctx body old mid now variants backings = adds_then _ _ _ _ _ variants (rw (backings-all ctx body) backings)
+enum-found ctx body old mid now variants backings =
+    let own : ◌≡◌ {A = Item (Rec ℕ Span) → List (Found Span)} (at_variant (λ rs. [])) (λ it. []) = λ i it. no-parts (is Kind.Variant it.head) i in
+    adds_then _ _ _ _ _ (subst (λ (f : Item (Rec ℕ Span) → List (Found Span)). Adds old mid (list_violations ctx enum_scheme f (body_items body))) own variants)
+    (rw (backings-all ctx body) backings)

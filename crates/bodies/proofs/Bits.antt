@@ -1,31 +1,15 @@
 -- Rule 34: of the records of flags, each bit is asked for its position, and nothing else is told.
-use Rattle.std.proofs.Common.{◌≡◌, ℕ, Bool, true, false, ◌&&◌, List, [], ◌∷◌, refl, append-nil, eqb, ltb}
+use Rattle.std.proofs.Common.{◌≡◌, ℕ, Bool, true, false, List, [], ◌∷◌, refl, append-nil, ltb}
 use mathlib.Core.List.{flat_map}
-use Rattle.rules.specs.declared.span.Span.{Span}
-use Rattle.rules.specs.declared.violation.Violation.{Violation}
 use Rattle.rules.specs.Words.{items}
 use Rattle.rules.specs.Kind
-use Rattle.rules.specs.Record.{Rec, is, record_bytes, kind_in, value_in, ordinal_span_in}
+use Rattle.rules.specs.Record.{Rec, is}
 use Rattle.rules.specs.Context.{ValidationContext}
 use Rattle.rules.specs.Grammar.{starts_item}
-use Rattle.rules.specs.Rule.{Found, found_if, rule_row, error, FlagsBitTooHigh}
+use Rattle.rules.specs.Rule.{Found, found_if}
 use Rattle.rules.specs.Bodies.{flags_scheme, body_items, slots, retired_ordinals, member_violations, items_violations, flags_violations}
-use Rattle.diagnostic.specs.declared.violations.Violations.{Violations}
-use Rattle.diagnostic.specs.Push.{push_if}
-use Rattle.diagnostic.specs.Violations.{state_of, Adds}
-use Rattle.diagnostic.proofs.Added.{adds_if}
-use Rattle.names.specs.View.{view_at}
 use Rattle.bodies.specs.Bit.{bit_found}
 use Rattle.bodies.proofs.BodyItems.{item-member, no_item}
-
--- the rule at one record
-pub bit_added :
-    (sheet : List ℕ) (i kind value : ℕ) (span : Span) (violation : Violation) (old new : Violations) → kind ≡ kind_in (record_bytes sheet i) →
-    value ≡ value_in (record_bytes sheet i) → span ≡ ordinal_span_in (record_bytes sheet i) →
-    violation ≡ record { class = FlagsBitTooHigh; severity = error; span = span } → new.list.ghost_name ≡ old.list.ghost_name →
-    state_of new ≡ push_if (eqb kind Kind.Variant && ltb 63 value) violation (state_of old) → Adds old new (bit_found (view_at sheet i))
-unfolding view_at rule_row bit_found
-bit_added sheet i kind value span violation old new hk hv hs told same h = adds_if 34 _ _ old new same (rw (told, hs, hk, hv) at h)
 
 module _ {N P : Type 0} (ctx : ValidationContext N P) where
   -- of the scheme's rules only the first is there

@@ -18,5 +18,5 @@ pub mod Passing
 pub mod Retired
 pub mod RunEnds
 pub mod Turns
-pub mod Variants
+pub mod VariantList
 pub mod WholeRecords

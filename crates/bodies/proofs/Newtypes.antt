@@ -8,12 +8,11 @@ use Rattle.rules.specs.Sub
 use Rattle.rules.specs.Record.{record_bytes, kind_in, span_in}
 use Rattle.rules.specs.Context.{ValidationContext, declared_as}
 use Rattle.rules.specs.Bodies.{newtype_violations}
-use Rattle.rules.specs.Rule.{rule_row, error, NewtypeOverNewtype, NewtypeOverConfig}
+use Rattle.rules.specs.Rule.{found_if}
 use Rattle.names.specs.View.{view_at, view_of}
 use Rattle.diagnostic.specs.declared.violations.Violations.{Violations}
-use Rattle.diagnostic.specs.Push.{push_if}
-use Rattle.diagnostic.specs.Violations.{state_of, Adds}
-use Rattle.diagnostic.proofs.Added.{adds_none, adds_then, adds_if}
+use Rattle.diagnostic.specs.Violations.{Adds}
+use Rattle.diagnostic.proofs.Added.{adds_none, adds_then}
 use Rattle.types.proofs.Views.{view_first, view_empty}
 
 module _ (ctx : ValidationContext ℕ Span) (sheet : List ℕ) (body : RecordRange) (old : Violations) where
@@ -23,12 +22,10 @@ module _ (ctx : ValidationContext ℕ Span) (sheet : List ℕ) (body : RecordRan
 
   pub newtype_added :
       (a kind : ℕ) (newtype config : Bool) (mid new : Violations) → first_of body ≡ Some a → kind ≡ kind_in (record_bytes sheet a) →
-      newtype ≡ declared_as ctx Sub.Newtype a → config ≡ declared_as ctx Sub.Config a → mid.list.ghost_name ≡ old.list.ghost_name →
-      state_of mid ≡ push_if (eqb kind Kind.Named && newtype) (record { class = NewtypeOverNewtype; severity = error; span = span_in (record_bytes sheet a) }) (state_of old) →
-      new.list.ghost_name ≡ mid.list.ghost_name →
-      state_of new ≡ push_if (eqb kind Kind.Named && config) (record { class = NewtypeOverConfig; severity = error; span = span_in (record_bytes sheet a) }) (state_of mid) →
+      newtype ≡ declared_as ctx Sub.Newtype a → config ≡ declared_as ctx Sub.Config a →
+      Adds old mid (found_if 37 (eqb kind Kind.Named && newtype) (span_in (record_bytes sheet a))) →
+      Adds mid new (found_if 38 (eqb kind Kind.Named && config) (span_in (record_bytes sheet a))) →
       Adds old new (newtype_violations ctx (view_of sheet body.start body.end))
-  unfolding view_at rule_row newtype_violations
-  newtype_added a kind newtype config mid new some hk hn hc same h same' h' =
-      rw (view_first sheet body a some)
-      (adds_then old mid new _ _ (adds_if 37 _ _ old mid same (rw (hk, hn) at h)) (adds_if 38 _ _ mid new same' (rw (hk, hc) at h')))
+  unfolding view_at newtype_violations
+  newtype_added a kind newtype config mid new some hk hn hc first second =
+      rw (view_first sheet body a some) (adds_then old mid new _ _ (rw (hk, hn) at first) (rw (hk, hc) at second))

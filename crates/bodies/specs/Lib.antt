@@ -7,3 +7,4 @@ pub mod Ordinal
 pub mod Parts
 pub mod Runs
 pub mod Seen
+pub mod VariantParts

@@ -1,33 +1,18 @@
 // An enum: rules 31 to 33.
-ghost use Rattle.std.specs.Prelude.{◌≡◌, [], ltb};
+ghost use Rattle.std.specs.Prelude.{◌≡◌, ltb};
 ghost use Rattle.rules.specs.Words.{any_of};
-ghost use Rattle.rules.specs.Bodies.{backing_max, enum_scheme, body_items, slots, used_ordinals, list_violations, enum_violations};
+ghost use Rattle.rules.specs.Bodies.{backing_max, body_items, slots, used_ordinals, enum_violations};
 ghost use Rattle.names.specs.View.{view_at, view_of};
 ghost use Rattle.names.specs.Known.{context_in, records_in};
 ghost use Rattle.diagnostic.specs.Violations.{Adds};
 ghost use Rattle.bodies.specs.Backing.{narrow_found, backings_from};
 
 use crate::ordinal::OrdinalRules;
-use crate::seen::{ItemList, Seen};
+use crate::variants::check_variants;
 use crate::whole::WholeRecords;
 use diagnostic::Violations;
-use rules::{RecordRange, Sheet, Violation};
+use rules::{RecordRange, Rule, Sheet};
 use sheet::{kinds, subs};
-
-// Adds what is wrong with the variants of the body: rules 31 and 32.
-fn check_variants(body: WholeRecords, violations: &mut Violations)
-    ensures { Adds violations.old violations.new (list_violations (context_in body.entry.context) enum_scheme (λ it. []) (body_items (records_in body.entry.context body.entry.range))) }
-{
-    let mut seen = Seen::new(ItemList::variants(body));
-    seen.collect();
-    for i in body.range.start..body.range.end {
-        if body.kind(i) != kinds::VARIANT {
-            continue;
-        }
-        let variant = seen.meet(i);
-        OrdinalRules::ENUM.check(violations, variant);
-    }
-}
 
 // The greatest ordinal that a backing of that sub holds.
 #[tactic(auto, unfolding(rules::specs::Words::look_up))]
@@ -60,7 +45,7 @@ fn check_backing(sheet: &[u8], violations: &mut Violations, i: usize, body: Reco
         return;
     }
     let bad = is_narrow(sheet, body, backing_max(sheet::sub(sheet, i)));
-    violations.error_if(bad, sheet, i, Violation::EnumBackingTooNarrow);
+    violations.tell_if(bad, sheet, i, Rule::EnumBackingTooNarrow);
 }
 
 // Adds rule 33 for the enum.
@@ -77,6 +62,6 @@ fn check_backings(sheet: &[u8], violations: &mut Violations, body: RecordRange)
 pub fn check_enum(body: WholeRecords, violations: &mut Violations)
     ensures { Adds violations.old violations.new (enum_violations (context_in body.entry.context) (records_in body.entry.context body.entry.range)) }
 {
-    check_variants(body, violations);
+    check_variants(body, violations, OrdinalRules::ENUM, |_, _| {});
     check_backings(body.context.sheet, violations, body.range);
 }

@@ -7,16 +7,16 @@ ghost use Rattle.bodies.specs.Bit.{bit_found};
 
 use crate::whole::WholeRecords;
 use diagnostic::Violations;
-use rules::{Sheet, Violation};
+use rules::{Rule, Sheet};
 use sheet::kinds;
 
 // Adds rule 34, if record `i` is a bit whose position is too high.
+#[tactic(auto, unfolding(crate::specs::Bit::bit_found, names::specs::View::view_at))]
 fn check_bit(sheet: &[u8], violations: &mut Violations, i: usize)
     ensures { Adds violations.old violations.new (bit_found (view_at sheet.now i)) }
 {
     let bad = (sheet::kind(sheet, i) == kinds::VARIANT) & (Sheet::MAX_BIT < sheet::value(sheet, i));
-    let violation = Violation::error(sheet::ordinal_span(sheet, i), Violation::FlagsBitTooHigh);
-    violations.push_if(bad, violation);
+    violations.tell_ordinal_if(bad, sheet, i, Rule::FlagsBitTooHigh);
 }
 
 // Adds what is wrong with the flags.

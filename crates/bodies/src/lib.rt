@@ -11,6 +11,7 @@ mod ordinal;
 mod runs;
 mod seen;
 mod unions;
+mod variants;
 mod whole;
 
 pub use declaration::check_declaration;

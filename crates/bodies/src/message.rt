@@ -16,34 +16,25 @@ use crate::seen::{ItemList, MetItem, Seen};
 use crate::whole::WholeRecords;
 use annotations::MetNames;
 use diagnostic::Violations;
-use rules::Violation;
+use rules::Rule;
 use sheet::kinds;
 
 // Adds rule 1, if record `i` is an invariant.
+#[tactic(auto, unfolding(names::specs::View::view_at))]
 fn check_invariant(sheet: &[u8], violations: &mut Violations, i: usize)
     ensures { Adds violations.old violations.new (found_if 1 (is Kind.Invariant (view_at sheet.now i)) (view_at sheet.now i).place) }
 {
     let bad = sheet::kind(sheet, i) == kinds::INVARIANT;
-    violations.error_if(bad, sheet, i, Violation::InvariantUnsupported);
+    violations.tell_if(bad, sheet, i, Rule::InvariantUnsupported);
 }
 
 // Adds what is wrong with the ordinal and the name of the field: rules 2 to 5.
 #[inline(always)]
-#[tactic(auto, using(crate::proofs::Ordinals::field_fine))]
 fn check_ordinal_and_name(violations: &mut Violations, field: MetItem, renamed: bool)
     ensures { Adds violations.old violations.new (member_found field_scheme field.entry.meeting.tombstoned field.entry.meeting.met renamed (view_at field.entry.sheet.now field.entry.index)) }
 {
-    let fine = OrdinalRules::FIELD.allow(field) & !renamed;
-    if fine {
-        return;
-    }
-    OrdinalRules::FIELD.tell(violations, field);
-    violations.error_if(
-        renamed,
-        field.sheet,
-        field.index,
-        Violation::FieldNameDuplicate,
-    );
+    OrdinalRules::FIELD.check(violations, field);
+    violations.tell_if(renamed, field.sheet, field.index, Rule::FieldNameDuplicate);
 }
 
 // Adds what is wrong with the parts of the field that the records start with, which is not bare, and returns where they end.

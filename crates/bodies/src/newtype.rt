@@ -5,7 +5,7 @@ ghost use Rattle.diagnostic.specs.Violations.{Adds};
 
 use crate::whole::WholeRecords;
 use diagnostic::Violations;
-use rules::Violation;
+use rules::Rule;
 use sheet::{kinds, subs};
 
 // Adds what is wrong with the newtype whose inner type the records start with.
@@ -17,10 +17,8 @@ pub fn check_newtype(body: WholeRecords, violations: &mut Violations)
     };
     let context = body.context;
     let named = sheet::kind(context.sheet, inner) == kinds::NAMED;
-    // rule 37
     let newtype = named & types::is_declared_as(context, subs::NEWTYPE, inner);
-    violations.error_if(newtype, context.sheet, inner, Violation::NewtypeOverNewtype);
-    // rule 38
+    violations.tell_if(newtype, context.sheet, inner, Rule::NewtypeOverNewtype);
     let config = named & types::is_declared_as(context, subs::CONFIG, inner);
-    violations.error_if(config, context.sheet, inner, Violation::NewtypeOverConfig);
+    violations.tell_if(config, context.sheet, inner, Rule::NewtypeOverConfig);
 }

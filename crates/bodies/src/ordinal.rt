@@ -1,75 +1,62 @@
 // What is wrong with an ordinal.
-ghost use Rattle.std.specs.Prelude.{◌≡◌, not, ◌&&◌, leb};
-ghost use Rattle.diagnostic.specs.Violations.{Changes};
-ghost use Rattle.bodies.specs.Ordinal.{push_ordinal};
+ghost use Rattle.std.specs.Prelude.{false};
+ghost use Rattle.names.specs.View.{view_at};
+ghost use Rattle.diagnostic.specs.Violations.{Adds};
+ghost use Rattle.bodies.specs.Ordinal.{scheme_of, member_found};
 
 use crate::seen::MetItem;
 use diagnostic::Violations;
-use rules::{Sheet, Violation};
+use rules::{Rule, Sheet};
 
-// The greatest ordinal of a list, and the classes of one that is over it, of one that a tombstone has, and of one that is met already. Rules 2, 31 and 35 each
-// name a greatest, which today is the same.
+// The greatest ordinal of a list, and the rules against one that is over it, one that a tombstone has, and one that is met already. Rules 2, 31 and 35 each name
+// a greatest, which today is the same.
 #[derive(Clone, Copy)]
 pub struct OrdinalRules {
     pub greatest: u64,
-    pub too_large: u16,
-    pub reused: u16,
-    pub duplicate: u16,
+    pub too_large: Rule,
+    pub reused: Rule,
+    pub duplicate: Rule,
 }
 
 impl OrdinalRules {
     // rules 2 to 4
     pub const FIELD: OrdinalRules = OrdinalRules {
         greatest: Sheet::MAX_FIELD_ORDINAL,
-        too_large: Violation::OrdinalTooLarge,
-        reused: Violation::OrdinalReusedAfterRemoved,
-        duplicate: Violation::OrdinalDuplicate,
+        too_large: Rule::OrdinalTooLarge,
+        reused: Rule::OrdinalReusedAfterRemoved,
+        duplicate: Rule::OrdinalDuplicate,
     };
 
     // rules 31 and 32
     pub const ENUM: OrdinalRules = OrdinalRules {
         greatest: Sheet::MAX_FIELD_ORDINAL,
-        too_large: Violation::EnumOrdinalTooLarge,
-        reused: Violation::EnumOrdinalDuplicate,
-        duplicate: Violation::EnumOrdinalDuplicate,
+        too_large: Rule::EnumOrdinalTooLarge,
+        reused: Rule::EnumOrdinalDuplicate,
+        duplicate: Rule::EnumOrdinalDuplicate,
     };
 
     // rules 35 and 36
     pub const UNION: OrdinalRules = OrdinalRules {
         greatest: Sheet::MAX_FIELD_ORDINAL,
-        too_large: Violation::UnionOrdinalTooLarge,
-        reused: Violation::UnionOrdinalDuplicate,
-        duplicate: Violation::UnionOrdinalDuplicate,
+        too_large: Rule::UnionOrdinalTooLarge,
+        reused: Rule::UnionOrdinalDuplicate,
+        duplicate: Rule::UnionOrdinalDuplicate,
     };
 
-    // Whether nothing is wrong with the ordinal of the item.
-    pub fn allow(self, item: MetItem) -> bool
-        ensures { result ≡ ((not item.entry.meeting.tombstoned && not item.entry.meeting.met) && leb item.entry.ordinal self.greatest) }
-    {
-        !item.meeting.tombstoned & !item.meeting.met & (item.ordinal <= self.greatest)
-    }
-
-    // Adds what is wrong with the ordinal of the item, test by test. The classes may be any, so what is added is told by violations, and not by the rules that
-    // `Adds` names.
-    #[tactic(auto, unfolding(crate::specs::Ordinal::push_ordinal))]
-    pub fn tell(self, violations: &mut Violations, item: MetItem)
-        ensures { Changes violations.old violations.new (push_ordinal self item.entry.sheet.now item.entry.index item.entry.meeting.tombstoned item.entry.meeting.met) }
-    {
-        let span = sheet::ordinal_span(item.sheet, item.index);
-        let over = self.greatest < item.ordinal;
-        violations.push_if(over, Violation::error(span, self.too_large));
-        violations.push_if(item.meeting.tombstoned, Violation::error(span, self.reused));
-        let again = !item.meeting.tombstoned & item.meeting.met;
-        violations.push_if(again, Violation::error(span, self.duplicate));
-    }
-
     // Adds what is wrong with the ordinal of the item.
-    #[tactic(auto, unfolding(crate::specs::Ordinal::push_ordinal, diagnostic::specs::Push::push_if))]
+    #[inline(always)]
     pub fn check(self, violations: &mut Violations, item: MetItem)
-        ensures { Changes violations.old violations.new (push_ordinal self item.entry.sheet.now item.entry.index item.entry.meeting.tombstoned item.entry.meeting.met) }
+        ensures { Adds violations.old violations.new (member_found (scheme_of self) item.entry.meeting.tombstoned item.entry.meeting.met false (view_at item.entry.sheet.now item.entry.index)) }
     {
-        if !self.allow(item) {
-            self.tell(violations, item);
+        // most have nothing wrong with them, and one test says so
+        let fine = !item.meeting.tombstoned & !item.meeting.met & (item.ordinal <= self.greatest);
+        if fine {
+            return;
         }
+        let over = self.greatest < item.ordinal;
+        violations.tell_ordinal_if(over, item.sheet, item.index, self.too_large);
+        violations.tell_ordinal_if(item.meeting.tombstoned, item.sheet, item.index, self.reused);
+        let again = !item.meeting.tombstoned & item.meeting.met;
+        violations.tell_ordinal_if(again, item.sheet, item.index, self.duplicate);
     }
 }

@@ -7,5 +7,4 @@ returns-then-kind-ne-BACKING c = no-backing _ _ _ _ _ _ c.kind.ensures c.if-kind
 
 pub returns : goal.returns
 returns c =
-    rule-33 _ _ _ _ _ _ c.kind.ensures _ _ _ _ c.if-kind-ne-BACKING.false c.sub.ensures c.backing_max.ensures c.is_narrow-bad.ensures c.error_if.ensures.reference
-    c.error_if.ensures.state
+    rule-33 _ _ _ _ _ _ c.kind.ensures _ _ _ _ c.if-kind-ne-BACKING.false c.sub.ensures c.backing_max.ensures c.is_narrow-bad.ensures c.tell_if.ensures

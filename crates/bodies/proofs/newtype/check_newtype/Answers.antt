@@ -8,5 +8,5 @@ returns-in_default c = newtype_none _ _ c.args.body.range _ (sym c.first.ensures
 
 pub returns : goal.returns
 returns c =
-    newtype_added _ _ c.args.body.range _ _ _ _ _ c.error_if.new.self _ (sym c.first.ensures ∙ c.in-Some.is) c.kind-named.ensures c.is_declared_as.ensures
-    c.is_declared_as-2.ensures c.error_if.ensures.reference c.error_if.ensures.state c.error_if-2.ensures.reference c.error_if-2.ensures.state
+    newtype_added _ _ c.args.body.range _ _ _ _ _ _ _ (sym c.first.ensures ∙ c.in-Some.is) c.kind-named.ensures c.is_declared_as.ensures
+    c.is_declared_as-2.ensures c.tell_if.ensures c.tell_if-2.ensures

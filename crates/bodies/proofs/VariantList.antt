@@ -1,0 +1,168 @@
+-- The variants of an enum or a union: what is known before each record, and what is still to add.
+use Prim.Native.Nat.{ℕ, ◌+◌, ◌-◌, ◌≤◌, ◌<◌}
+use native.Mathlib.Omega.{arith}
+use mathlib.Core.Path.{◌≡◌, refl, sym, ap, ap₂, ◌∙◌}
+use mathlib.Core.Bool.{Bool, true, false, not, ◌&&◌}
+use mathlib.Core.List.{List, [], ◌++◌, flat_map}
+use borrow.Author.Tests.{eqb-true}
+use Rattle.rules.specs.declared.span.Span.{Span}
+use Rattle.rules.specs.Words.{only_if, any_of, member, front, Item, items}
+use Rattle.rules.specs.Kind
+use Rattle.rules.specs.Record.{Rec, is, kind_in, value_in, record_bytes}
+use Rattle.rules.specs.Context.{ValidationContext}
+use Rattle.rules.specs.Grammar.{starts_item}
+use Rattle.rules.specs.Rule.{Found}
+use Rattle.rules.specs.Bodies.{is_member, items_violations, list_violations, body_items}
+use Rattle.names.specs.View.{view_at, view_of}
+use Rattle.names.specs.Known.{context_in, records_in}
+use Rattle.diagnostic.specs.declared.violations.Violations.{Violations}
+use Rattle.diagnostic.specs.Violations.{Adds}
+use Rattle.diagnostic.proofs.Added.{adds_then}
+use Rattle.types.proofs.Left.{Leaves, leaves_all, leaves_rest, leaves_none}
+use Rattle.bodies.specs.declared.ordinal.OrdinalRules.{OrdinalRules}
+use Rattle.bodies.specs.declared.whole.WholeRecords.{WholeRecords}
+use Rattle.bodies.specs.declared.seen.Seen.{Seen}
+use Rattle.bodies.specs.declared.seen.ItemList.{ItemList}
+use Rattle.bodies.specs.declared.seen.MetItem.{MetItem}
+use Rattle.bodies.specs.Seen.{Known}
+use Rattle.bodies.specs.Met.{sheet_of, IsItem, tombstoned_in, met_before, KnownBefore}
+use Rattle.bodies.specs.Earlier.{earlier}
+use Rattle.bodies.specs.Runs.{in_item}
+use Rattle.bodies.specs.Ordinal.{scheme_of, member_found}
+use Rattle.bodies.specs.VariantParts.{at_variant}
+use Rattle.bodies.proofs.BodyItems.{item-member}
+use Rattle.bodies.proofs.Passing.{values, gone, before, known-other}
+use Rattle.bodies.proofs.Turns.{names_of, kind-is, kind-not, left, turn-member, turn-other, turn-inner, turn-none}
+use Rattle.bodies.proofs.Retired.{retired-items}
+use Rattle.bodies.proofs.WholeRecords.{has-ordinal, variant-has}
+use Rattle.bodies.proofs.FieldTurns.{member-tests}
+
+-- the kinds of a body
+variant-starts : (r : Rec ℕ Span) → is Kind.Variant r ≡ true → starts_item r ≡ true
+variant-starts r t = let k : r.kind ≡ 14 = eqb-true r.kind 14 t in rw k
+
+variant-member : (r : Rec ℕ Span) → is Kind.Variant r ≡ true → is_member r ≡ true
+variant-member r t = let k : r.kind ≡ 14 = eqb-true r.kind 14 t in rw k
+
+module _ (body : WholeRecords) where
+  abbrev sheet : List ℕ
+  sheet = body.context.sheet.now
+
+  abbrev a : ℕ
+  a = body.range.start
+
+  abbrev e : ℕ
+  e = body.range.end
+
+  abbrev at : ℕ → Rec ℕ Span
+  at i = view_at sheet i
+
+  -- the list of the body's variants
+  abbrev pub variants_of : ItemList
+  variants_of = record { records = body; item = Kind.Variant; tombstone = Kind.Tombstone }
+
+  -- before record i of the body
+  pub record VariantsKnown (seen : Seen) (i : ℕ) : Type 0 where
+    pub list : seen.list ≡ variants_of
+    pub most : i ≤ e
+    pub known : Known 14 15 sheet a e seen.tombstones seen.ordinals seen.marks seen.len i
+
+  pub variants_none : (seen : Seen) → seen.list ≡ variants_of → KnownBefore seen a → VariantsKnown seen a
+  variants_none seen list known = record { list = list; most = body.ordered; known = rw list at known }
+
+  -- at a record
+  module _ (seen : Seen) (i kind : ℕ) (k : VariantsKnown seen i) (h : i < e) (hk : kind ≡ kind_in (record_bytes sheet i)) where
+    -- that is no variant
+    pub variants_other : (kind ≡ 14 → ⊥) → VariantsKnown seen (i + 1)
+    variants_other ne = record {
+      list = k.list;
+      most = omega arith;
+      known = known-other 14 15 sheet a e seen.tombstones seen.ordinals seen.marks seen.len i k.known h (kind-not sheet i kind 14 hk ne);
+    }
+
+    -- that is one
+    pub meets_variant : kind ≡ 14 → IsItem seen.list i
+    meets_variant eq = rw k.list (h, kind-is sheet i kind 14 hk eq, has-ordinal kind 14 (kind_in (record_bytes sheet i)) hk eq variant-has)
+
+    pub variants_met : (seen' : Seen) → seen'.list ≡ seen.list → KnownBefore seen' (i + 1) → VariantsKnown seen' (i + 1)
+    variants_met seen' same known' =
+        let whole : seen'.list ≡ variants_of = same ∙ k.list in
+        record { list = whole; most = omega arith; known = rw whole at known' }
+
+  module _ (rules : OrdinalRules) (parts : List (Rec ℕ Span) → List (Found Span)) where
+    abbrev ctx : ValidationContext ℕ Span
+    ctx = context_in body.context
+
+    abbrev own : Item (Rec ℕ Span) → List (Found Span)
+    own = at_variant parts
+
+    abbrev tombs : List ℕ
+    tombs = gone 14 15 sheet a e
+
+    abbrev variants : ℕ → List (Rec ℕ Span)
+    variants i = before 14 15 sheet a e i
+
+    abbrev behind : ℕ → List (Rec ℕ Span)
+    behind i = front in_item (view_of sheet (i + 1) e)
+
+    -- what is found at the variants, and at those from record i on
+    abbrev pub variants_found : List (Found Span)
+    variants_found = list_violations ctx (scheme_of rules) own (body_items (view_of sheet a e))
+
+    abbrev pub variants_left : ℕ → List (Found Span)
+    variants_left i = left ctx (scheme_of rules) own starts_item 14 sheet a e tombs i
+
+    pub found_all : (vs : Violations) → Leaves vs vs variants_found (variants_left a)
+    unfolding earlier
+    found_all vs =
+        let none : a - a ≡ 0 = omega arith in
+        let same : variants_left a ≡ variants_found =
+        rw none (ap (λ xs. items_violations ctx (scheme_of rules) own xs [] [] (items starts_item (view_of sheet a e))) (sym (retired-items (view_of sheet a e)))) in
+        rw (← same) (leaves_all vs (variants_left a))
+
+    module _ (old now : Violations) (i : ℕ) (leaves : Leaves old now variants_found (variants_left i)) where
+      pub found_end : e ≤ i → Adds old now variants_found
+      found_end h = leaves_none old now _ _ leaves (turn-none ctx (scheme_of rules) own starts_item 14 sheet a e tombs i h)
+
+      module _ (seen : Seen) (kind : ℕ) (k : VariantsKnown seen i) (h : i < e) (hk : kind ≡ kind_in (record_bytes sheet i)) where
+        pub found_other : (kind ≡ 14 → ⊥) → Leaves old now variants_found (variants_left (i + 1))
+        found_other ne = rw (go (starts_item (at i)) refl) at leaves
+          where
+            t : is Kind.Variant (at i) ≡ false
+            t = kind-not sheet i kind 14 hk ne
+
+            go : (b : Bool) → starts_item (at i) ≡ b → variants_left i ≡ variants_left (i + 1)
+            go true st =
+                turn-other ctx (scheme_of rules) own starts_item 14 sheet a e tombs i k.known.2 h st (item-member (at i) st ∙ t) t
+                ∙ ap (λ b. only_if b (parts (behind i)) ++ variants_left (i + 1)) t
+            go false st = turn-inner ctx (scheme_of rules) own starts_item 14 sheet a e tombs i k.known.2 h st t
+
+        -- no name is asked for
+        names-free : (tombstoned met b c : Bool) (r : Rec ℕ Span) → member_found (scheme_of rules) tombstoned met b r ≡ member_found (scheme_of rules) tombstoned met c r
+        unfolding member_found flat_map
+        names-free tombstoned met b c r = refl
+
+        pub found_variant :
+            (m : MetItem) (rest : WholeRecords) (mid new : Violations) → kind ≡ 14 → m.sheet ≡ seen.list.records.context.sheet → m.index ≡ i →
+            m.meeting.tombstoned ≡ tombstoned_in seen.list (value_in (record_bytes (sheet_of seen.list) i)) →
+            m.meeting.met ≡ met_before seen.list i (value_in (record_bytes (sheet_of seen.list) i)) →
+            rest.range ≡ record { start = i + 1; end = e } → rest.context ≡ body.context →
+            Adds now mid (member_found (scheme_of rules) m.meeting.tombstoned m.meeting.met false (view_at m.sheet.now m.index)) →
+            Adds mid new (parts (front in_item (records_in rest.context rest.range))) → Leaves old new variants_found (variants_left (i + 1))
+        unfolding view_at
+        found_variant m rest mid new eq hs hi ht hm hr hc ordinal found =
+            let test : is Kind.Variant (at i) ≡ true = kind-is sheet i kind 14 hk eq in
+            let gone : Bool = m.meeting.tombstoned in
+            let again : Bool = any_of (ctx.same (at i).name) (names_of (variants i)) in
+            let dead : gone ≡ member (value_in (record_bytes sheet i)) tombs = rw k.list at ht in
+            let met : m.meeting.met ≡ member (value_in (record_bytes sheet i)) (values (variants i)) = rw k.list at hm in
+            let here : List (Found Span) = member_found (scheme_of rules) gone m.meeting.met false (at i) in
+            leaves_rest old now new _ _ (here ++ parts (behind i)) _ leaves
+            (turn-member ctx (scheme_of rules) own starts_item 14 sheet a e tombs i k.known.2 h (variant-starts (at i) test) (variant-member (at i) test) test
+            ∙ ap₂ (λ xs b. xs ++ only_if b (parts (behind i)) ++ variants_left (i + 1))
+            (sym (names-free gone m.meeting.met false again (at i)
+            ∙ member-tests ctx (scheme_of rules) tombs (values (variants i)) (names_of (variants i)) (at i) gone m.meeting.met again dead
+            (ap₂ (λ g m. not g && m) dead met)
+            refl))
+            test)
+            (adds_then now mid new here (parts (behind i)) (rw (hs, k.list, hi) at ordinal) (rw (hc, hr) at found))
