@@ -97,11 +97,9 @@ module _ (ctx : ValidationContext ℕ Span) (sheet : List ℕ) (i : ℕ) (rs : L
   unfolding view_at
   adds_geometric least most adds = rw (own-geometric ctx (view_at sheet i) rs (rw kind at least) (rw kind at most)) adds
 
-  pub adds_bits :
-      (span : Span) → k ≡ Kind.BitsInline → span ≡ span_in (record_bytes sheet i) → Adds old new (bit_name_violations ctx span (front (is Kind.BitName) rs)) →
-      Adds old new (own_type_violations ctx (view_at sheet i) rs)
+  pub adds_bits : k ≡ Kind.BitsInline → Adds old new (bit_name_violations ctx (view_at sheet i).place (front (is Kind.BitName) rs)) → Adds old new (own_type_violations ctx (view_at sheet i) rs)
   unfolding view_at
-  adds_bits span h read adds = rw (own-bits ctx (view_at sheet i) rs (sym kind ∙ h), ← read) adds
+  adds_bits h adds = rw (own-bits ctx (view_at sheet i) rs (sym kind ∙ h)) adds
 
   pub adds_fixed :
       (n : ℕ) → k ≡ Kind.FixedArray → n ≡ value_in (record_bytes sheet i) → Adds old new (found_if 9 (eqb n 0) (span_in (record_bytes sheet i))) →

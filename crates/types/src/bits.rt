@@ -5,33 +5,33 @@ ghost use Rattle.rules.specs.Kind;
 ghost use Rattle.rules.specs.Record.{is};
 ghost use Rattle.rules.specs.Types.{bit_name_violations};
 ghost use Rattle.diagnostic.specs.Violations.{Adds};
+ghost use Rattle.names.specs.View.{view_at};
 ghost use Rattle.names.specs.Known.{context_in, records_in};
 
 use diagnostic::Violations;
 use names::ValidationContext;
-use rules::{RecordRange, Span, Violation};
+use rules::{RecordRange, Rule};
 use sheet::kinds;
 
-// Adds rule 11 where there is no bit name, and rule 12 for each that is not valid.
+// Adds rule 11 at type `i` where there is no bit name, and rule 12 for each that is not valid.
 pub fn check_bits(
     context: ValidationContext,
     violations: &mut Violations,
-    span: Span,
+    i: usize,
     rest: RecordRange,
 )
-    ensures { Adds violations.old violations.new (bit_name_violations (context_in context.entry) span (front (is Kind.BitName) (records_in context.entry rest))) }
+    ensures { Adds violations.old violations.new (bit_name_violations (context_in context.entry) (view_at context.entry.sheet.now i).place (front (is Kind.BitName) (records_in context.entry rest))) }
 {
+    let sheet = context.sheet;
     let named = rest
         .first()
-        .is_some_and(|i| sheet::kind(context.sheet, i) == kinds::BIT_NAME);
-    // rule 11
-    violations.push_if(!named, Violation::error(span, Violation::BitsInlineEmpty));
-    for i in rest.start..rest.end {
-        if sheet::kind(context.sheet, i) != kinds::BIT_NAME {
+        .is_some_and(|first| sheet::kind(sheet, first) == kinds::BIT_NAME);
+    violations.tell_if(!named, sheet, i, Rule::BitsInlineEmpty);
+    for bit in rest.start..rest.end {
+        if sheet::kind(sheet, bit) != kinds::BIT_NAME {
             return;
         }
-        // rule 12
-        let valid = context.is_valid_field_name(i);
-        violations.push_if(!valid, Violation::error(span, Violation::InvalidBitName));
+        let valid = context.is_valid_field_name(bit);
+        violations.tell_if(!valid, sheet, i, Rule::InvalidBitName);
     }
 }

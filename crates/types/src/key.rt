@@ -9,7 +9,7 @@ ghost use Rattle.types.specs.Key.{is_without_key, is_invalid_end};
 use crate::declared::is_declared_as;
 use diagnostic::Violations;
 use names::ValidationContext;
-use rules::{RecordRange, Violation};
+use rules::{RecordRange, Rule};
 use sheet::{kinds, subs};
 
 // Whether the name of record `i` is declared as a message, a union or a config.
@@ -55,7 +55,6 @@ pub fn check_map_key_type(
     let Some(key) = rest.first() else {
         return;
     };
-    // rule 8
     let bad = is_invalid_map_key(context, key);
-    violations.error_if(bad, context.sheet, key, Violation::InvalidMapKey);
+    violations.tell_if(bad, context.sheet, key, Rule::InvalidMapKey);
 }

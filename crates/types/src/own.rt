@@ -13,7 +13,7 @@ use crate::key::check_map_key_type;
 use crate::valid::is_valid_geometric_element_type;
 use diagnostic::Violations;
 use names::ValidationContext;
-use rules::{RecordRange, Violation};
+use rules::{RecordRange, Rule};
 use sheet::{kinds, subs};
 
 // Whether the name of record `i` is a known type: declared or imported, or any name where there is a wildcard.
@@ -27,12 +27,10 @@ fn is_known_type(context: ValidationContext, i: usize) -> bool
 pub fn check_named(context: ValidationContext, violations: &mut Violations, i: usize)
     ensures { Adds violations.old violations.new (named_found (context_in context.entry) (view_at context.entry.sheet.now i)) }
 {
-    // rule 6
     let config = is_declared_as(context, subs::CONFIG, i);
-    violations.error_if(config, context.sheet, i, Violation::ConfigTypeAsField);
-    // rule 7
+    violations.tell_if(config, context.sheet, i, Rule::ConfigTypeAsField);
     let known = is_known_type(context, i);
-    violations.error_if(!known, context.sheet, i, Violation::UnknownType);
+    violations.tell_if(!known, context.sheet, i, Rule::UnknownType);
 }
 
 // Adds rule 10 at the element that the records start with.
@@ -42,13 +40,12 @@ fn check_element(context: ValidationContext, violations: &mut Violations, rest: 
     let Some(element) = rest.first() else {
         return;
     };
-    // rule 10
     let valid = is_valid_geometric_element_type(context.sheet, rest);
-    violations.error_if(
+    violations.tell_if(
         !valid,
         context.sheet,
         element,
-        Violation::GeometricInvalidElementType,
+        Rule::GeometricInvalidElementType,
     );
 }
 
@@ -66,11 +63,10 @@ pub fn check_own_type(
         kinds::NAMED => check_named(context, violations, i),
         kinds::SET..=kinds::MAP => check_map_key_type(context, violations, rest),
         kinds::VEC2..=kinds::MAT4 => check_element(context, violations, rest),
-        kinds::BITS_INLINE => check_bits(context, violations, sheet::span(context.sheet, i), rest),
+        kinds::BITS_INLINE => check_bits(context, violations, i, rest),
         kinds::FIXED_ARRAY => {
-            // rule 9
             let empty = sheet::value(context.sheet, i) == 0;
-            violations.error_if(empty, context.sheet, i, Violation::LimitZero);
+            violations.tell_if(empty, context.sheet, i, Rule::FixedArrayEmpty);
         }
         _ => {}
     }
