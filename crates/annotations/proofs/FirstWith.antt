@@ -9,18 +9,16 @@ use lib.ListN.{take}
 use borrow.Author.Tests.{leb-true, leb-false}
 use Rattle.std.specs.Prelude.{Option, Some, None, MatchOption, is_some}
 use Rattle.rules.specs.declared.span.Span.{Span}
-use Rattle.rules.specs.declared.violation.Violation.{Violation}
 use Rattle.rules.specs.Words.{any_of, only_if, select, Item}
 use Rattle.rules.specs.Context.{varint, zigzag}
 use Rattle.rules.specs.Kind
-use Rattle.rules.specs.Record.{Rec, is, span_in, record_bytes}
-use Rattle.rules.specs.Rule.{Found, rule_row}
+use Rattle.rules.specs.Record.{Rec, is}
+use Rattle.rules.specs.Rule.{Found, found_if}
 use Rattle.rules.specs.Annotations.{annotations_of, is_word, combined_violations}
 use Rattle.names.specs.View.{view_at, view_of, context_by, entry_of, code_part}
 use Rattle.diagnostic.specs.declared.violations.Violations.{Violations}
-use Rattle.diagnostic.specs.Push.{push_one}
-use Rattle.diagnostic.specs.Violations.{state_of, Adds}
-use Rattle.diagnostic.proofs.Added.{adds_none, adds_one}
+use Rattle.diagnostic.specs.Violations.{Adds}
+use Rattle.diagnostic.proofs.Added.{adds_none}
 use Rattle.annotations.specs.AnnotationAt.{annotation_at}
 use Rattle.annotations.specs.FirstWith.{first_with, at_first}
 use Rattle.annotations.proofs.Views.{annotations-next, annotations-other, annotations-none}
@@ -84,6 +82,9 @@ module _ {A : Type 0} where
       by-test false more = more
 
 module _ (table sheet : List ℕ) (a e : ℕ) where
+  abbrev at_zigzag : Item (Rec ℕ Span) → List (Found Span)
+  at_zigzag a = found_if 13 true a.head.place
+
   abbrev combined : List (Found Span)
   combined = combined_violations (context_by table sheet) (annotations_of (view_of sheet a e))
 
@@ -92,20 +93,21 @@ module _ (table sheet : List ℕ) (a e : ℕ) where
   some-varint None h = any-first _ _ ∙ rw (← h)
   some-varint (Some i) h = any-first _ _ ∙ rw (← h)
 
-  module _ (v : Option ℕ) (hv : at_first sheet e v ≡ first_with table sheet varint a e) where
-    pub combined-without : (vs : Violations) → is_some v ≡ false → Adds vs vs combined
-    unfolding combined_violations
-    combined-without vs none = rw (some-varint v hv, none) (adds_none vs)
+  module _ (z : Option ℕ) (hz : at_first sheet e z ≡ first_with table sheet zigzag a e) where
+    pub combined-alone : (vs : Violations) → z ≡ None → Adds vs vs combined
+    unfolding combined_violations first_with flat_map
+    combined-alone vs none = by (any_of (is_word (context_by table sheet) varint) (annotations_of (view_of sheet a e)))
+      where
+        by : (some : Bool) → Adds vs vs (only_if some (flat_map at_zigzag (first_with table sheet zigzag a e)))
+        by true = rw (← hz, none) (adds_none vs)
+        by false = adds_none vs
 
-    module _ (some : is_some v ≡ true) (z : Option ℕ) (hz : at_first sheet e z ≡ first_with table sheet zigzag a e) where
-      pub combined-alone : (vs : Violations) → z ≡ None → Adds vs vs combined
-      unfolding combined_violations first_with flat_map
-      combined-alone vs none = rw (some-varint v hv, some, ← hz, none) (adds_none vs)
-
-      pub combined-found :
-          (i : ℕ) (place : Span) (w : Violation) (old new : Violations) → z ≡ Some i → place ≡ span_in (record_bytes sheet i) →
-          w ≡ record { class = 54; severity = 0; span = place } → new.list.ghost_name ≡ old.list.ghost_name →
-          state_of new ≡ push_one w (state_of old) → Adds old new combined
-      unfolding combined_violations first_with flat_map rule_row annotation_at view_at
-      combined-found i place w old new here hp hw same pushed =
-          rw (some-varint v hv, some, ← hz, here) (adds_one 13 _ old new same (pushed ∙ rw (hw, hp)))
+    pub combined-found :
+        (v : Option ℕ) (i : ℕ) (both : Bool) (old new : Violations) → z ≡ Some i → at_first sheet e v ≡ first_with table sheet varint a e → both ≡ is_some v →
+        Adds old new (found_if 13 both (view_at sheet i).place) → Adds old new combined
+    unfolding combined_violations first_with flat_map annotation_at
+    combined-found v i both old new here hv hb found = rw (some-varint v hv, ← hz, here, ← hb) (by both found)
+      where
+        by : (some : Bool) → Adds old new (found_if 13 some (view_at sheet i).place) → Adds old new (only_if some (flat_map at_zigzag (annotation_at sheet i e ∷ [])))
+        by true found = found
+        by false found = found

@@ -6,14 +6,13 @@ use mathlib.Core.List.{List, flat_map}
 use lib.Dec.{eqb, ltb}
 use Rattle.rules.specs.declared.span.Span.{Span}
 use Rattle.rules.specs.Record.{Rec, span_in, value_in, record_bytes}
-use Rattle.rules.specs.Rule.{Found, rule_row}
+use Rattle.rules.specs.Rule.{Found, found_if}
 use Rattle.rules.specs.Types.{is_limit_capped_type}
 use Rattle.rules.specs.Annotations.{max_limit, limit_value_violations}
 use Rattle.names.specs.View.{view_at, view_of, context_by}
 use Rattle.diagnostic.specs.declared.violations.Violations.{Violations}
-use Rattle.diagnostic.specs.Push.{push_if}
-use Rattle.diagnostic.specs.Violations.{state_of, Adds}
-use Rattle.diagnostic.proofs.Added.{adds_none, adds_then, adds_if}
+use Rattle.diagnostic.specs.Violations.{Adds}
+use Rattle.diagnostic.proofs.Added.{adds_none, adds_then}
 use Rattle.annotations.specs.AnnotationAt.{annotation_at, is_number_at}
 use Rattle.annotations.specs.LimitViolations.{limit_violations}
 
@@ -29,15 +28,11 @@ module _ (table sheet : List ℕ) (i a z j : ℕ) (number : Bool) (hn : number �
   pub limit-judged :
       (value : ℕ) (capped : Bool) (old mid new : Violations) → number ≡ true →
       value ≡ value_in (record_bytes sheet j) → capped ≡ is_limit_capped_type (view_of sheet a z) →
-      mid.list.ghost_name ≡ old.list.ghost_name →
-      state_of mid ≡ push_if (eqb value 0) (record { class = 51; severity = 0; span = span_in (record_bytes sheet i) }) (state_of old) →
-      new.list.ghost_name ≡ mid.list.ghost_name →
-      state_of new ≡ push_if (ltb max_limit value && capped) (record { class = 50; severity = 0; span = span_in (record_bytes sheet i) }) (state_of mid) →
+      Adds old mid (found_if 18 (eqb value 0) (span_in (record_bytes sheet i))) →
+      Adds mid new (found_if 19 (ltb max_limit value && capped) (span_in (record_bytes sheet i))) →
       Adds old new at
-  unfolding is_number_at view_at rule_row
-  limit-judged value capped old mid new f hv hc rm em rn en =
-      rw (← hn, f, ← hv, ← hc)
-      (adds_then old mid new _ _ (adds_if 18 (eqb value 0) _ old mid rm em) (adds_if 19 (ltb max_limit value && capped) _ mid new rn en))
+  unfolding is_number_at view_at
+  limit-judged value capped old mid new f hv hc zero exceeds = rw (← hn, f, ← hv, ← hc) (adds_then old mid new _ _ zero exceeds)
 
 -- what is found at the arguments of a limit is found at the limit
 pub limit-found :

@@ -1,14 +1,13 @@
 -- Rules 14 to 21: an annotation has one word, so it breaks the rules of that word alone.
-use Rattle.std.proofs.Common.{ℕ, ◌≤◌, ◌≡◌, refl, sym, ◌∙◌, Bool, false, not, List, [], ◌++◌, append-nil, arith, eqb, Some, None}
+use Rattle.std.proofs.Common.{ℕ, ◌≤◌, ◌≡◌, refl, sym, false, List, [], ◌++◌, append-nil, arith, eqb, Some, None}
 use Rattle.rules.specs.declared.span.Span.{Span}
 use Rattle.rules.specs.Record.{Rec}
-use Rattle.rules.specs.Rule.{Found, found_if, violation}
+use Rattle.rules.specs.Rule.{Found}
 use Rattle.rules.specs.Annotations.{deprecated_violations, annotation_violations}
 use Rattle.names.specs.View.{view_at, view_of, context_by, entry_of, code_part}
 use Rattle.diagnostic.specs.declared.violations.Violations.{Violations}
-use Rattle.diagnostic.specs.Push.{push_if}
-use Rattle.diagnostic.specs.Violations.{state_of, Adds}
-use Rattle.diagnostic.proofs.Added.{adds_none, adds_then, adds_if}
+use Rattle.diagnostic.specs.Violations.{Adds}
+use Rattle.diagnostic.proofs.Added.{adds_none, adds_then}
 use Rattle.names.specs.declared.words.Word.{Word}
 use Rattle.names.specs.declared.words.Word.TheVariants.{Varint, Zigzag, Delta, Limit, Deprecated, Doc, Reason, Blank}
 use Rattle.annotations.specs.AnnotationAt.{annotation_at}
@@ -72,16 +71,7 @@ module _ (table sheet : List ℕ) (i e a z : ℕ) where
   no_arguments Reason vs h₁ h₂ = adds_none vs
   no_arguments Blank vs h₁ h₂ = adds_none vs
 
--- the error of a word, under the test of its type
-pub target-told :
-    (rule class : ℕ) (takes valid : Bool) (told : Bool × ℕ) (place : Span) (old new : Violations) →
-    violation (record { rule = rule; place = place }) ≡ record { class = class; severity = 0; span = place } → told ≡ (valid, class) → valid ≡ takes →
-    new.list.ghost_name ≡ old.list.ghost_name →
-    state_of new ≡ push_if (not told.0) (record { class = told.1; severity = 0; span = place }) (state_of old) →
-    Adds old new (found_if rule (not takes) place)
-target-told rule class takes valid told place old new hv ht takes-is same pushed =
-    rw (← takes-is) (adds_if rule (not valid) place old new same (pushed ∙ rw (ht, hv)))
-
+-- the other words have no rule at the annotation
 pub no_target :
     (w : Word) (ty : List (Rec ℕ Span)) (place : Span) (vs : Violations) → (w ≡ Varint → ⊥) → (w ≡ Zigzag → ⊥) → (w ≡ Delta → ⊥) → (w ≡ Limit → ⊥) →
     Adds vs vs (target_violations w ty place)

@@ -5,13 +5,11 @@ use Rattle.rules.specs.declared.span.Span.{Span}
 use Rattle.rules.specs.Words.{any_of, only_if}
 use Rattle.rules.specs.Kind
 use Rattle.rules.specs.Record.{is, span_in, record_bytes}
-use Rattle.rules.specs.Rule.{Found, found_if, rule_row}
+use Rattle.rules.specs.Rule.{Found, found_if}
 use Rattle.rules.specs.Annotations.{annotations_of, duplicate_annotations}
 use Rattle.names.specs.View.{view_at, view_of, context_by, entry_of, id_part, code_part}
 use Rattle.diagnostic.specs.declared.violations.Violations.{Violations}
-use Rattle.diagnostic.specs.Push.{push_if}
-use Rattle.diagnostic.specs.Violations.{state_of, Adds}
-use Rattle.diagnostic.proofs.Added.{adds_if}
+use Rattle.diagnostic.specs.Violations.{Adds}
 use Rattle.annotations.specs.AnnotationAt.{annotation_at}
 use Rattle.annotations.specs.Slots.{has_key}
 use Rattle.annotations.specs.Met.{Row, is_met}
@@ -92,12 +90,8 @@ module _ (table sheet : List ℕ) (a e : ℕ) where
   -- a turn of the loop: rule 22 at record i
   pub duplicates-turn :
       (old mid new : Violations) (all : List (Found Span)) (i : ℕ) (bad : Bool) → a ≤ i → i < e → bad ≡ repeats_at table sheet a i →
-      Leaves old mid all (duplicates_from i) → new.list.ghost_name ≡ mid.list.ghost_name →
-      state_of new ≡ push_if bad (record { class = 45; severity = 0; span = span_in (record_bytes sheet i) }) (state_of mid) →
-      Leaves old new all (duplicates_from (i + 1))
-  unfolding rule_row
-  duplicates-turn old mid new all i bad l h hb left same pushed =
-      leaves_rest old mid new all _ _ _ (rw (duplicates-next i h l, ← hb) at left) refl (adds_if 22 bad (span_in (record_bytes sheet i)) mid new same pushed)
+      Leaves old mid all (duplicates_from i) → Adds mid new (found_if 22 bad (span_in (record_bytes sheet i))) → Leaves old new all (duplicates_from (i + 1))
+  duplicates-turn old mid new all i bad l h hb left told = leaves_rest old mid new all _ _ _ (rw (duplicates-next i h l, ← hb) at left) refl told
 
   pub duplicates_end : (old now : Violations) (all : List (Found Span)) (i : ℕ) → e ≤ i → Leaves old now all (duplicates_from i) → Adds old now all
   unfolding duplicates_from duplicate_annotations

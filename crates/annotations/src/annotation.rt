@@ -10,9 +10,10 @@ use crate::deprecated::check_deprecated_has_reason;
 use crate::limit::check_limit_value;
 use diagnostic::Violations;
 use names::{ValidationContext, Word};
-use rules::{RecordRange, Violation};
+use rules::{RecordRange, Rule};
 
-// Adds the error of an annotation with that word at record `i`, if a field of that type may not have it.
+// Adds rules 14 to 17 of an annotation with that word at record `i`: a field of that type may not have it.
+#[tactic(auto, using(crate::proofs::OneAnnotation::no_target), unfolding(names::specs::View::view_at))]
 fn check_target(
     context: ValidationContext,
     violations: &mut Violations,
@@ -22,30 +23,26 @@ fn check_target(
 )
     ensures { Adds violations.old violations.new (target_violations word (records_in context.entry ty) (view_at context.entry.sheet.now i).place) }
 {
-    let (valid, class) = match word {
-        // rule 14
+    let (valid, rule) = match word {
         Word::Varint => (
             types::is_varint_valid_type(context.sheet, ty),
-            Violation::VarintInvalidTarget,
+            Rule::VarintInvalidTarget,
         ),
-        // rule 15
         Word::Zigzag => (
             types::is_zigzag_valid_type(context.sheet, ty),
-            Violation::ZigzagInvalidTarget,
+            Rule::ZigzagInvalidTarget,
         ),
-        // rule 16
         Word::Delta => (
             types::is_delta_valid_type(context.sheet, ty),
-            Violation::DeltaInvalidTarget,
+            Rule::DeltaInvalidTarget,
         ),
-        // rule 17
         Word::Limit => (
             types::is_limit_valid_type(context.sheet, ty),
-            Violation::LimitInvalidTarget,
+            Rule::LimitInvalidTarget,
         ),
         _ => return,
     };
-    violations.error_if(!valid, context.sheet, i, class);
+    violations.tell_if(!valid, context.sheet, i, rule);
 }
 
 // Adds what is wrong with the annotation at the first record of a field of that type. Its arguments are the records after it, up to the next annotation.

@@ -10,7 +10,7 @@ use crate::arguments::is_annotation;
 use crate::word::is_word;
 use diagnostic::Violations;
 use names::{ValidationContext, Word};
-use rules::{RecordRange, Violation};
+use rules::{RecordRange, Rule};
 
 // The first annotation with that word, if there is one.
 pub fn first_with(context: ValidationContext, word: Word, annotations: RecordRange) -> Option<usize>
@@ -28,12 +28,9 @@ pub fn check_combined(
 )
     ensures { Adds violations.old violations.new (combined_violations (context_in context.entry) (annotations_of (records_in context.entry annotations))) }
 {
-    if first_with(context, Word::Varint, annotations).is_none() {
+    let Some(zigzag) = first_with(context, Word::Zigzag, annotations) else {
         return;
-    }
-    if let Some(zigzag) = first_with(context, Word::Zigzag, annotations) {
-        // rule 13
-        let span = sheet::span(context.sheet, zigzag);
-        violations.push(Violation::error(span, Violation::VarintZigzagCombined));
-    }
+    };
+    let varint = first_with(context, Word::Varint, annotations).is_some();
+    violations.tell_if(varint, context.sheet, zigzag, Rule::VarintZigzagCombined);
 }

@@ -9,7 +9,7 @@ use crate::arguments::arguments;
 use crate::word::is_word;
 use diagnostic::Violations;
 use names::{ValidationContext, Word};
-use rules::{RecordRange, Violation};
+use rules::{RecordRange, Rule};
 
 // Whether the annotation at the first record has a key `reason`.
 pub fn has_reason(context: ValidationContext, annotation: RecordRange) -> bool
@@ -28,12 +28,8 @@ pub fn check_deprecated_has_reason(
 )
     ensures { Adds violations.old violations.new (deprecated_violations (context_in context.entry) (annotation_in context.entry annotation)) }
 {
-    let span = sheet::span(context.sheet, annotation.start);
-    if has_reason(context, annotation) {
-        // rule 21
-        violations.push(Violation::warning(span, Violation::DeprecatedMissingReason));
-    } else {
-        // rule 20
-        violations.push(Violation::error(span, Violation::DeprecatedMissingReason));
-    }
+    let at = annotation.start;
+    let reason = has_reason(context, annotation);
+    violations.tell_if(!reason, context.sheet, at, Rule::DeprecatedMissingReason);
+    violations.tell_if(reason, context.sheet, at, Rule::DeprecatedWithReason);
 }

@@ -12,7 +12,7 @@ use crate::named::NamedRecords;
 use crate::word::is_word;
 use diagnostic::Violations;
 use names::{ValidationContext, Word};
-use rules::{RecordRange, Violation};
+use rules::{RecordRange, Rule};
 use sheet::kinds;
 
 // The most records whose annotations are compared one by one: for so few, that takes less than to clear the slots of names.
@@ -38,9 +38,8 @@ fn check_met<F: FnMut(usize) -> bool>(
 {
     for i in annotations.start..annotations.end {
         if is_compared(context, i) {
-            // rule 22
             let duplicate = is_met(i);
-            violations.error_if(duplicate, context.sheet, i, Violation::DuplicateAnnotation);
+            violations.tell_if(duplicate, context.sheet, i, Rule::DuplicateAnnotation);
         }
     }
 }

@@ -11,7 +11,7 @@ use crate::arguments::arguments;
 use crate::word::is_word;
 use diagnostic::Violations;
 use names::{ValidationContext, Word};
-use rules::{RecordRange, Sheet, Violation};
+use rules::{RecordRange, Rule, Sheet};
 use sheet::subs;
 
 // Whether record `j` is a number without a key.
@@ -40,12 +40,10 @@ pub fn check_argument(
         return;
     }
     let value = sheet::value(context.sheet, j);
-    // rule 18
-    violations.error_if(value == 0, context.sheet, i, Violation::LimitZero);
-    // rule 19
+    violations.tell_if(value == 0, context.sheet, i, Rule::LimitZero);
     let capped = types::is_limit_capped_type(context.sheet, ty);
     let exceeds = (Sheet::MAX_LIMIT < value) & capped;
-    violations.error_if(exceeds, context.sheet, i, Violation::LimitExceedsGlobal);
+    violations.tell_if(exceeds, context.sheet, i, Rule::LimitExceedsGlobal);
 }
 
 // Adds what is wrong with each argument of the limit at the first record, for that type. They are the records after it, up to the next annotation.

@@ -1,13 +1,9 @@
 -- One of the two rules tells, by whether there is a reason.
-use Rattle.std.proofs.Common.{rules}
-use Rattle.annotations.proofs.Reasons.{deprecated-with, deprecated-without}
+use Rattle.diagnostic.proofs.Added.{adds_then}
+use Rattle.names.specs.View.{view_at}
+use Rattle.annotations.specs.AnnotationAt.{annotation_at}
 use Rattle.annotations.proofs.deprecated.check_deprecated_has_reason.Goals as goal
 
-pub returns-then-has_reason : goal.returns-then-has_reason
-returns-then-has_reason c =
-    deprecated-with _ _ _ _ _ c.has_reason.ensures _ c.span-span.ensures _ _ _ c.push.ensures.reference c.push.ensures.state c.if-has_reason.true (search rules)
-
-pub returns-else-has_reason : goal.returns-else-has_reason
-returns-else-has_reason c =
-    let push = c.push-else-has_reason.ensures in
-    deprecated-without _ _ _ _ _ c.has_reason.ensures _ c.span-span.ensures _ _ _ push.reference push.state c.if-has_reason.false (search rules)
+pub returns : goal.returns
+unfolding annotation_at view_at
+returns c = rw (← c.has_reason-reason.ensures) (adds_then _ _ _ _ _ c.tell_if.ensures c.tell_if-2.ensures)

@@ -8,7 +8,4 @@ returns-then-not-is_number c = limit-passed _ _ _ _ _ _ _ c.is_number.ensures _ 
 
 pub returns : goal.returns
 returns c =
-    let zero = c.error_if.ensures in
-    let exceeds = c.error_if-2.ensures in
-    limit-judged _ _ _ _ _ _ _ c.is_number.ensures _ _ c.args.violations.now c.error_if.new.self _ c.if-not-is_number.false c.value-value.ensures (search rules)
-    zero.reference zero.state exceeds.reference exceeds.state
+    limit-judged _ _ _ _ _ _ _ c.is_number.ensures _ _ _ _ _ c.if-not-is_number.false c.value-value.ensures (search rules) c.tell_if.ensures c.tell_if-2.ensures
