@@ -1,6 +1,7 @@
--- The literals that a type takes, as the code holds them.
-use Rattle.std.specs.Prelude.{ℕ, Bool, not, ◌&&◌, ◌||◌, eqb, Option, Some, None, if◌then◌else◌, ◌==◌}
+-- The literals that a type takes, as the code holds them, and what is found at an operand.
+use Rattle.std.specs.Prelude.{ℕ, Bool, not, List, Option, Some, None, if◌then◌else◌, ◌==◌}
 use Rattle.rules.specs.Sub
+use Rattle.rules.specs.Rule.{Found, found_if}
 use Rattle.rules.specs.Conditions as conditions
 use Rattle.conditions.specs.declared.literals.Literals.{Literals}
 use Rattle.conditions.specs.declared.operand.Operand.{Operand}
@@ -9,14 +10,6 @@ use Rattle.conditions.specs.declared.operand.Operand.TheVariants.{Int, Float, St
 -- the definition's literals
 abbrev pub taken : Literals → conditions.Literals
 taken l = record { int = l.int; float = l.float; string = l.string; bool = l.boolean }
-
--- rules 23 to 26: an operand of that sub is a literal that is not taken
-unfoldable pub mismatches : conditions.Literals → ℕ → Bool
-mismatches takes sub =
-    eqb sub Sub.IntOperand && not takes.int
-    || eqb sub Sub.FloatOperand && not takes.float
-    || eqb sub Sub.StringOperand && not takes.string
-    || eqb sub Sub.BoolOperand && not takes.bool
 
 -- the operand with that sub, if a rule speaks of it
 unfoldable pub operand_of : ℕ → Option Operand
@@ -27,3 +20,12 @@ operand_of sub =
     else (if sub == Sub.BoolOperand then Some Boolean
     else (if sub == Sub.ConstRef then Some ConstRef
     else None))))
+
+-- rules 23 to 27 at an operand, on a type that takes those literals, with a constant that is known or not
+module _ {P : Type 0} (takes : conditions.Literals) (known : Bool) (place : P) where
+  unfoldable pub operand_found : Operand → List (Found P)
+  operand_found Int = found_if 23 (not takes.int) place
+  operand_found Float = found_if 24 (not takes.float) place
+  operand_found String = found_if 25 (not takes.string) place
+  operand_found Boolean = found_if 26 (not takes.bool) place
+  operand_found ConstRef = found_if 27 (not known) place

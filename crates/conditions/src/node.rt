@@ -9,7 +9,7 @@ use crate::operands::validate_where_operands;
 use crate::operator::validate_cmp_operator;
 use diagnostic::Violations;
 use names::ValidationContext;
-use rules::{RecordRange, Violation};
+use rules::{RecordRange, Rule};
 use sheet::kinds;
 
 // Adds what rules 23 to 28 find at a comparison.
@@ -35,12 +35,11 @@ fn validate_range(
     ensures { Adds violations.old violations.new (range_violations (context_in context.entry) (taken literals) (node_of context.entry.sheet.now node)) }
 {
     validate_where_operands(context, violations, node, literals);
-    // rule 29
-    violations.error_if(
+    violations.tell_if(
         !literals.int,
         context.sheet,
         node.start,
-        Violation::WhereClauseRangeInvalid,
+        Rule::WhereClauseRangeInvalid,
     );
 }
 
@@ -53,12 +52,11 @@ fn validate_len(
 )
     ensures { Adds violations.old violations.new (length_violations (context_in context.entry) collection (node_of context.entry.sheet.now node)) }
 {
-    // rule 30
-    violations.error_if(
+    violations.tell_if(
         !collection,
         context.sheet,
         node.start,
-        Violation::WhereClauseLenOnNonCollection,
+        Rule::WhereClauseLenOnNonCollection,
     );
     validate_where_operands(context, violations, node, length_literals());
 }

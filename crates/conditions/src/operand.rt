@@ -10,7 +10,7 @@ ghost use Rattle.conditions.specs.Taken.{taken, operand_of};
 use crate::literals::Literals;
 use diagnostic::Violations;
 use names::ValidationContext;
-use rules::Violation;
+use rules::Rule;
 use sheet::{kinds, subs};
 
 // Whether the name of record `i` is a declared constant's, or imported.
@@ -64,20 +64,15 @@ pub fn validate_where_operand(
     let Some(operand) = Operand::with_sub(sheet::sub(context.sheet, i)) else {
         return;
     };
-    let (taken, class) = match operand {
-        // rule 23
-        Operand::Int => (literals.int, Violation::WhereClauseTypeMismatch),
-        // rule 24
-        Operand::Float => (literals.float, Violation::WhereClauseTypeMismatch),
-        // rule 25
-        Operand::String => (literals.string, Violation::WhereClauseTypeMismatch),
-        // rule 26
-        Operand::Bool => (literals.boolean, Violation::WhereClauseTypeMismatch),
-        // rule 27
+    let (taken, rule) = match operand {
+        Operand::Int => (literals.int, Rule::WhereClauseIntMismatch),
+        Operand::Float => (literals.float, Rule::WhereClauseFloatMismatch),
+        Operand::String => (literals.string, Rule::WhereClauseStringMismatch),
+        Operand::Bool => (literals.boolean, Rule::WhereClauseBoolMismatch),
         Operand::ConstRef => (
             is_known_const(context, i),
-            Violation::WhereClauseConstRefNotFound,
+            Rule::WhereClauseConstRefNotFound,
         ),
     };
-    violations.error_if(!taken, context.sheet, i, class);
+    violations.tell_if(!taken, context.sheet, i, rule);
 }

@@ -7,7 +7,7 @@ ghost use Rattle.names.specs.View.{view_at};
 ghost use Rattle.conditions.specs.Parts.{operator_violations};
 
 use diagnostic::Violations;
-use rules::Violation;
+use rules::Rule;
 use sheet::{kinds, subs};
 
 // Whether a comparison of that sub orders: Lt, Gt, Le, Ge.
@@ -21,8 +21,7 @@ fn orders(sub: u8) -> bool
 pub fn validate_cmp_operator(sheet: &[u8], violations: &mut Violations, i: usize, numeric: bool)
     ensures { Adds violations.old violations.new (operator_violations numeric (view_at sheet.now i)) }
 {
-    // rule 28
     let ordered = (sheet::kind(sheet, i) == kinds::CMP) & orders(sheet::sub(sheet, i));
     let bad = ordered & !numeric;
-    violations.error_if(bad, sheet, i, Violation::WhereClauseOperatorInvalid);
+    violations.tell_if(bad, sheet, i, Rule::WhereClauseOperatorInvalid);
 }
