@@ -18,6 +18,7 @@ fn orders(sub: u8) -> bool
 }
 
 // Adds what rule 28 finds at record `i`, if it is a comparison, on a field that is numeric or not.
+#[tactic(auto, unfolding(names::specs::View::view_at, crate::specs::Parts::operator_violations))]
 pub fn validate_cmp_operator(sheet: &[u8], violations: &mut Violations, i: usize, numeric: bool)
     ensures { Adds violations.old violations.new (operator_violations numeric (view_at sheet.now i)) }
 {
