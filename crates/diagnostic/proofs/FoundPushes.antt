@@ -1,8 +1,8 @@
 -- What the rules found is added part by part, since violations are added one after another.
-use Rattle.std.proofs.Common.{◌≡◌, ℕ, Bool, true, false, List, [], ◌∷◌, ◌++◌, map, refl, ap, ◌∙◌}
+use Rattle.std.proofs.Common.{◌≡◌, List, [], ◌∷◌, ◌++◌, map, refl, ap, ◌∙◌}
 use Rattle.rules.specs.declared.span.Span.{Span}
-use Rattle.rules.specs.Rule.{Found, found_if, violation}
-use Rattle.diagnostic.specs.Push.{State, push_all, push_if, push_found}
+use Rattle.rules.specs.Rule.{Found, violation}
+use Rattle.diagnostic.specs.Push.{State, push_all, push_found}
 use Rattle.diagnostic.proofs.Pushes.{push-append}
 
 map-append : {A B : Type 0} (f : A → B) (xs ys : List A) → map f (xs ++ ys) ≡ map f xs ++ map f ys
@@ -16,12 +16,6 @@ found-append xs ys s = ap (λ vs. push_all vs s) (map-append violation xs ys) �
 pub found_none : (s : State) → push_found [] s ≡ s
 unfolding push_found push_all
 found_none s = refl
-
--- one rule, with its test
-pub found-if : (rule : ℕ) (bad : Bool) (place : Span) (s : State) → push_if bad (violation (record { rule = rule; place = place })) s ≡ push_found (found_if rule bad place) s
-unfolding push_found push_all push_if
-found-if rule true place s = refl
-found-if rule false place s = refl
 
 -- two parts, one after the other
 pub found-then : (xs ys : List (Found Span)) (s t u : State) → t ≡ push_found xs s → u ≡ push_found ys t → u ≡ push_found (xs ++ ys) s

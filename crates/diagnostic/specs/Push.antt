@@ -1,5 +1,5 @@
 -- What adding a violation does to the list buffer and to the counts so far, and what adding several does.
-use Rattle.std.specs.Prelude.{ℕ, ◌+◌, ◌*◌, ◌%◌, ◌^◌, Bool, true, false, List, [], ◌∷◌, ◌++◌, map, length, take, drop, ◌==◌, nat_le}
+use Rattle.std.specs.Prelude.{ℕ, ◌+◌, ◌*◌, ◌%◌, ◌^◌, true, false, List, [], ◌∷◌, ◌++◌, map, length, take, drop, ◌==◌, nat_le}
 use Rattle.rules.specs.declared.answer.Counts.{Counts}
 use Rattle.rules.specs.declared.violation.Violation.{Violation}
 use Rattle.rules.specs.declared.span.Span.{Span}
@@ -34,11 +34,6 @@ push_one v s = (stored v s.1.total s.0, counted v.severity s.1)
 unfoldable pub push_all : List Violation → State → State
 push_all [] s = s
 push_all (v ∷ vs) s = push_all vs (push_one v s)
-
--- the violation is added if the test holds
-unfoldable pub push_if : Bool → Violation → State → State
-push_if true v s = push_one v s
-push_if false v s = s
 
 -- what the rules found is added, each as it is told
 unfoldable pub push_found : List (Found Span) → State → State

@@ -9,11 +9,6 @@ use Rattle.diagnostic.specs.Push.{State, push_found}
 abbrev pub state_of : Violations → State
 state_of vs = (vs.list.now, vs.counts)
 
--- the list and the counts are changed so, and the list stays the one that was lent
-pub record Changes (old new : Violations) (change : State → State) : Type 0 where
-  pub reference : new.list.ghost_name ≡ old.list.ghost_name
-  pub state : state_of new ≡ change (state_of old)
-
 -- what the rules found is added, each as it is told, and the list stays the one that was lent
 pub record Adds (old new : Violations) (found : List (Found Span)) : Type 0 where
   pub reference : new.list.ghost_name ≡ old.list.ghost_name

@@ -3,8 +3,8 @@ ghost use Rattle.std.specs.Prelude.{◌≡◌, true};
 ghost use Rattle.rules.specs.Record.{record_bytes, span_in, ordinal_span_in};
 ghost use Rattle.rules.specs.Rule.{found_if};
 ghost use Rattle.rules.specs.RuleNumber.{rule_number};
-ghost use Rattle.diagnostic.specs.Push.{push_one, push_if};
-ghost use Rattle.diagnostic.specs.Violations.{state_of, Changes, Adds};
+ghost use Rattle.diagnostic.specs.Push.{push_one};
+ghost use Rattle.diagnostic.specs.Violations.{state_of, Adds};
 
 use crate::list::{count_one, store};
 use rules::{Counts, Rule, Span, Violation};
@@ -31,32 +31,14 @@ impl<'a> Violations<'a> {
     }
 
     // Adds the violation: writes it if there is room for it, and counts it in any case.
-    pub fn push(&mut self, violation: Violation)
-        ensures { Changes self.old self.new (push_one violation) }
+    fn push(&mut self, violation: Violation)
+        ensures reference { self.new.list.ghost_name ≡ self.old.list.ghost_name }
+        ensures state { state_of self.new ≡ push_one violation (state_of self.old) }
     {
         store(self.list, self.counts.total, violation);
         self.counts = count_one(self.counts, violation.severity);
     }
 
-    // Adds the violation if `bad`.
-    #[tactic(auto, unfolding(crate::specs::Push::push_if))]
-    pub fn push_if(&mut self, bad: bool, violation: Violation)
-        ensures { Changes self.old self.new (push_if bad violation) }
-    {
-        if bad {
-            self.push(violation);
-        }
-    }
-
-    // Adds an error of that class at record `i` if `bad`. The span is read only where it is told.
-    #[tactic(auto, unfolding(crate::specs::Push::push_if))]
-    pub fn error_if(&mut self, bad: bool, sheet: &[u8], i: usize, class: u16)
-        ensures { Changes self.old self.new (push_if bad (record { class = class; severity = 0; span = span_in (record_bytes sheet.now i) })) }
-    {
-        if bad {
-            self.push(Violation::error(sheet::span(sheet, i), class));
-        }
-    }
     // Tells the rule at that span.
     #[tactic(auto, unfolding(crate::specs::Push::push_all, crate::specs::Push::push_found))]
     fn tell(&mut self, span: Span, rule: Rule)

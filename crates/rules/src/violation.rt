@@ -1,7 +1,5 @@
-// A violation: its class, its severity and where it was found. Class and severity are numbers and no enums: `error` and `warning` take any class, and an enum
-// would ask more of their callers; the bytes of a list that are read back may be any numbers.
-ghost use Rattle.std.specs.Prelude.{◌≡◌};
-
+// A violation: its class, its severity and where it was found. Class and severity are numbers and no enums, since the bytes of a list that are read back may be any
+// numbers; what the check tells is told by a `Rule`, which has both.
 use crate::span::Span;
 
 #[derive(Clone, Copy)]
@@ -88,26 +86,4 @@ impl Violation {
     pub const WhereClauseOperatorInvalid: u16 = 67;
 
     pub const InvariantUnsupported: u16 = 68;
-
-    // An error of that class at that span.
-    pub fn error(span: Span, class: u16) -> Violation
-        ensures { result ≡ record { class = class; severity = 0; span = span } }
-    {
-        Violation {
-            class,
-            severity: Violation::ERROR,
-            span,
-        }
-    }
-
-    // A warning of that class at that span.
-    pub fn warning(span: Span, class: u16) -> Violation
-        ensures { result ≡ record { class = class; severity = 1; span = span } }
-    {
-        Violation {
-            class,
-            severity: Violation::WARNING,
-            span,
-        }
-    }
 }
