@@ -1,9 +1,3 @@
-pub mod Stack
-pub mod Parts
-pub mod PartSteps
-pub mod Items
-pub mod KindOnly
-pub mod Bodies
 pub mod RecordBytes
 pub mod OwnFaults
 pub mod ChainWalk

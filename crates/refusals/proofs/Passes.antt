@@ -20,13 +20,13 @@ use Rattle.rules.specs.declared.answer.Refusal.{Refusal}
 use Rattle.rules.specs.declared.answer.Refused.{Refused}
 use Rattle.rules.proofs.Records.{records-drop, records-end}
 use Rattle.names.specs.View.{entry_of, declaration_part, view_at}
-use Rattle.refusals.specs.declared.state.State.{State}
+use Rattle.grammar.specs.declared.state.State.{State}
 use Rattle.refusals.specs.Answers.{own_of, told_at}
-use Rattle.refusals.specs.Due.{bare}
-use Rattle.refusals.specs.States.{start_state, state_of}
+use Rattle.grammar.specs.Due.{bare}
+use Rattle.grammar.specs.States.{start_state, state_of}
 use Rattle.refusals.specs.Pass.{is_second, or_second, record_step_by, first_fault_by, Ended}
 use Rattle.refusals.proofs.OwnFaults.{sub_at}
-use Rattle.refusals.proofs.KindOnly.{step-kind, step-sub}
+use Rattle.grammar.proofs.KindOnly.{step-kind, step-sub}
 
 pub second_read : (table : List ℕ) (i d : ℕ) → d ≡ entry_of declaration_part table i → not (eqb d (i + 1)) ≡ is_second table i
 second_read table i d e = rw (e, add-one)

@@ -8,7 +8,7 @@ use mathlib.Core.Bool.{Bool, true, false, not, ◌&&◌, ◌||◌, false≢true}
 use mathlib.Core.List.{List, [], ◌∷◌}
 use mathlib.Core.Option.{none}
 use Rattle.std.specs.Prelude as std
-use Rattle.std.specs.Prelude.{Ok, MatchOption, unwrap_or, ⊤}
+use Rattle.std.specs.Prelude.{min, Ok, MatchOption, unwrap_or, ⊤}
 use Rattle.names.specs.View.{view_at}
 use lib.ListN.{length, get_or, drop}
 use lib.Dec.{eqb, leb}
@@ -22,11 +22,11 @@ use Rattle.rules.specs.Grammar as Grammar
 use Rattle.rules.specs.Grammar.{Due, due_at, none_due, lifted, step, context_step, field_list_step, field_step, type_step, part_step}
 use Rattle.rules.specs.Refusals.{own_fault}
 use Rattle.rules.proofs.Taken.{within-true}
-use Rattle.refusals.specs.declared.state.Body.{Body}
-use Rattle.refusals.specs.declared.state.Item.{Item}
-use Rattle.refusals.specs.declared.state.State.{State}
-use Rattle.refusals.specs.Due.{bare, room, deepened}
-use Rattle.refusals.specs.States.{type_with, in_body, state_of}
+use Rattle.grammar.specs.declared.state.Body.{Body}
+use Rattle.grammar.specs.declared.state.Item.{Item}
+use Rattle.grammar.specs.declared.state.State.{State}
+use Rattle.grammar.specs.Due.{bare, room, deepened}
+use Rattle.grammar.specs.States.{type_with, in_body, state_of}
 use Rattle.refusals.specs.Pass.{or_second, record_step_by, first_fault_by, Ended}
 use Rattle.refusals.specs.Runs.{is_import, is_bit_name, is_nest, Plain, Ran, at}
 use Rattle.refusals.proofs.OwnFaults.{own_none, name_fits}
@@ -192,7 +192,7 @@ module _ (sheet names : List ℕ) (i r n : ℕ) (first : i ≤ r) (last : r ≤ 
 
   ran-first : (part : Kind.Part) (depth : ℕ) (ds : List Due) → (room (due_at depth part ∷ ds) ≡ 0 → ⊥) → r ≤ i + room (due_at depth part ∷ ds) →
       Ran sheet names (at Body.Message Item.Typed) (due_at depth part ∷ ds) (deepened (r - i) (due_at depth part ∷ ds)) i r
-  ran-first type depth ds some few = ran-deeper depth ds few
+  ran-first type depth ds some few = let fit : min (r - i) (65 - depth) ≡ r - i = omega arith in rw fit (ran-deeper depth ds few)
   ran-first condition depth ds some few = absurd (some refl)
   ran-first operand depth ds some few = absurd (some refl)
 

@@ -6,7 +6,6 @@ use Rattle.rules.specs.Kind
 use Rattle.rules.specs.Answer.{number_of}
 use Rattle.rules.specs.declared.answer.Refusal.{Refusal}
 use Rattle.rules.specs.declared.answer.Refused.{Refused}
-use Rattle.rules.specs.declared.answer.Refusal.TheVariants.{OutOfOrder}
 
 -- what byte 1 is to be less than, if there is such a kind: how many subs the kind has; 256 for a kind without a sub
 abbrev pub limited : Bool → ℕ → std.Option ℕ
@@ -14,11 +13,6 @@ limited known subs = elim known [ true ↦ std.Some (elim (eqb subs 0) [ true �
 
 abbrev pub sub_limit : ℕ → std.Option ℕ
 sub_limit kind = limited (Kind.known kind) (Kind.sub_count kind)
-
--- row 6
-abbrev pub in_order : Bool → Result (Unit {0}) Refusal
-in_order true = Ok tt
-in_order false = Err OutOfOrder
 
 -- a step's answer, told of a record
 abbrev pub told_at : Result (Unit {0}) Refusal → ℕ → Result (Unit {0}) Refused

@@ -3,11 +3,11 @@ use Rattle.std.specs.Prelude.{ℕ, ◌/◌, ◌≤◌, ◌≡◌, Bool, true, Li
 use Rattle.rules.specs.Words.{within}
 use Rattle.rules.specs.Kind
 use Rattle.rules.specs.Record.{record_size, kind_in, clean_in, fits_in, records}
-use Rattle.refusals.specs.declared.state.Body.{Body}
-use Rattle.refusals.specs.declared.state.Item.{Item}
-use Rattle.refusals.specs.declared.state.State.{State}
+use Rattle.grammar.specs.declared.state.Body.{Body}
+use Rattle.grammar.specs.declared.state.Item.{Item}
+use Rattle.grammar.specs.declared.state.State.{State}
 use Rattle.rules.specs.Grammar.{Due}
-use Rattle.refusals.specs.States.{state_of}
+use Rattle.grammar.specs.States.{state_of}
 use Rattle.refusals.specs.Pass.{first_fault_by, Ended}
 
 -- the kinds of a run: imported names; bit names; optionals, arrays, fixed arrays and sets

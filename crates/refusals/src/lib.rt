@@ -3,14 +3,10 @@
 
 mod bytes;
 mod chain;
-mod due;
-mod fields;
-mod machine;
 mod order;
 mod own;
 mod pass;
 mod rows;
 mod runs;
-mod state;
 
 pub use rows::accept;

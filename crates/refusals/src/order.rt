@@ -1,19 +1,9 @@
-// Row 6, and which record a refusal is told of.
+// Which record a refusal is told of.
 ghost use Rattle.std.specs.Prelude.{◌≡◌, ◌≤◌};
 ghost use Rattle.rules.specs.Refusals.{max_records};
-ghost use Rattle.refusals.specs.Answers.{in_order, told_at};
+ghost use Rattle.refusals.specs.Answers.{told_at};
 
 use rules::{Refusal, Refused};
-
-// A record that may stand where it does, or that is out of order.
-pub fn in_order(may: bool) -> Result<(), Refusal>
-    ensures { result ≡ in_order may }
-{
-    if may {
-        return Ok(());
-    }
-    Err(Refusal::OutOfOrder)
-}
 
 // The refusal, told of record `i`; an accepted length has 1,024 records at most.
 pub fn refused_at(refusal: Refusal, i: usize) -> Refused

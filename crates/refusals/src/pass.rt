@@ -6,16 +6,15 @@ ghost use Rattle.std.specs.Prelude.{◌≡◌, ◌&&◌, ◌+◌, ◌/◌, ◌<�
 ghost use Rattle.rules.specs.Record.{record_size, record_bytes, decode, kind_in, sub_in, records};
 ghost use Rattle.rules.specs.Grammar as Grammar;
 ghost use Rattle.rules.specs.Refusals.{max_length, max_records};
-ghost use Rattle.refusals.specs.Due.{bare};
-ghost use Rattle.refusals.specs.States.{state_of, step_of};
+ghost use Rattle.grammar.specs.Due.{bare};
+ghost use Rattle.grammar.specs.States.{state_of, step_of};
 ghost use Rattle.refusals.specs.Pass.{is_second, or_second, record_step_by, first_fault_by, Ended, passed_of, EndSound};
 
 use crate::bytes::{is_renaming, record};
-use crate::due::Due;
 use crate::order::{refused_at, told_at};
 use crate::own::own_fault;
 use crate::runs::run_end;
-use crate::state::State;
+use grammar::{Due, State};
 use names::NameTable;
 use rules::{Refusal, Refused, Sheet};
 use sheet::kinds;

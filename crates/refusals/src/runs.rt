@@ -2,13 +2,12 @@
 // which has the part that is due one deeper. A run begins at a record of the sheet or at its end, which `run_end` asks and hands on to the three below it.
 ghost use Rattle.std.specs.Prelude.{◌≡◌, ◌&&◌, true, ℕ, ◌/◌, ◌<◌, ◌≤◌, length, eqb};
 ghost use Rattle.rules.specs.Record.{kind_in, clean_in};
-ghost use Rattle.refusals.specs.declared.state.Body.TheVariants.{Context, Message};
-ghost use Rattle.refusals.specs.declared.state.Item.TheVariants.{Typed};
+ghost use Rattle.grammar.specs.declared.state.Body.TheVariants.{Context, Message};
+ghost use Rattle.grammar.specs.declared.state.Item.TheVariants.{Typed};
 ghost use Rattle.refusals.specs.Runs.{is_nest, Plain, Ran, at};
 
 use crate::bytes::{name_end, record};
-use crate::due::Due;
-use crate::state::{Body, Item, State};
+use grammar::{Body, Due, Item, State};
 use rules::Sheet;
 use sheet::kinds;
 
@@ -55,7 +54,8 @@ fn nests_end(sheet: &[u8], names: &[u8], due: &mut Due, i: usize) -> usize
     }
     let limit = sheet::records(sheet).min(i + usize::from(room));
     let end = plain_end(i, limit, |j| is_plain_nest(record(sheet, j)));
-    due.deepen((end - i) as u8); // not more than `room`
+    // not more than `room`
+    due.deepen((end - i) as u8);
     end
 }
 

@@ -2,7 +2,7 @@
 use Rattle.std.proofs.Common.{◌≡◌, ◌-◌, ◌≤◌, drop}
 use Rattle.rules.specs.Record.{records}
 use Rattle.rules.specs.Grammar as Grammar
-use Rattle.refusals.specs.States.{state_of}
+use Rattle.grammar.specs.States.{state_of}
 use Rattle.refusals.specs.Pass.{is_second, first_fault_by, Ended}
 use Rattle.refusals.proofs.pass.first_fault.Given as goal
 
