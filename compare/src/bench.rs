@@ -18,7 +18,7 @@ mod shapes;
 use std::process::ExitCode;
 use std::time::Duration;
 
-use format::RECORD;
+use format::{LIST_LIMIT, RECORD};
 use measure::{agreed, clearing, measure, Effort, Times};
 use shapes::{Shape, FULL, SHAPES};
 
@@ -89,7 +89,7 @@ fn run(options: &Options) -> Result<(), String> {
         "Best of up to {} rounds, worst of {} seeds, microseconds. The list of {} bytes is not cleared between calls",
         options.passes * PASS.rounds,
         options.seeds,
-        library::LIST
+        LIST_LIMIT
     );
     println!(
         "(clearing it would take {:.2}); what the library clears for itself is in its times.",
@@ -104,7 +104,7 @@ fn run(options: &Options) -> Result<(), String> {
 /// Calls the library alone.
 fn call(shape: &Shape, calls: usize) {
     let (sheet, names) = shape.sheet(shape.records, 0);
-    let mut list = vec![0; library::LIST];
+    let mut list = vec![0; LIST_LIMIT];
     for _ in 0..calls {
         library::check(&sheet, &names, &mut list);
     }

@@ -14,6 +14,7 @@
 //! has number 0 and index 0, a refused one total 0 and errors 0. Nothing follows the last
 //! case. In the file that `record` writes one case's errors are one too few, on purpose.
 
+use crate::format::VIOLATION;
 use crate::generate::Case;
 use crate::reading::{written, Answer};
 use std::io::{self, Write};
@@ -33,9 +34,9 @@ pub fn write_case(out: &mut impl Write, case: &Case, answer: &Answer) -> io::Res
     for number in [answer.number, answer.index, answer.total, answer.errors] {
         out.write_all(&number.to_le_bytes())?;
     }
-    let mut list = vec![0; 12 * answer.list.len()];
+    let mut list = vec![0; VIOLATION * answer.list.len()];
     written(answer, &mut list);
-    for (violation, bytes) in answer.list.iter().zip(list.chunks_exact(12)) {
+    for (violation, bytes) in answer.list.iter().zip(list.chunks_exact(VIOLATION)) {
         out.write_all(bytes)?;
         out.write_all(&violation.rule.to_le_bytes())?;
         out.write_all(&violation.record.to_le_bytes())?;

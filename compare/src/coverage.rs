@@ -2,7 +2,7 @@
 
 use crate::format::{kind, subs, RECORD};
 use crate::generate::Case;
-use crate::reading::{class_and_severity, Answer};
+use crate::reading::{class_and_severity, Answer, RULES};
 use std::collections::BTreeMap;
 
 /// Counts are of sheets, not of occurrences within one.
@@ -62,22 +62,9 @@ impl Coverage {
     fn count_contents(&mut self, case: &Case, answer: &Answer) {
         self.violations += answer.list.len() as u64;
         self.full += u64::from(case.sheet.len() / RECORD > FULL);
-        let mut rules = [false; 39];
-        answer
-            .list
-            .iter()
-            .for_each(|v| rules[usize::from(v.rule)] = true);
-        let met: Vec<u16> = (1..39).filter(|&rule| rules[usize::from(rule)]).collect();
-        let mut classes: Vec<(u16, u8)> =
-            met.iter().map(|&rule| class_and_severity(rule)).collect();
-        classes.sort_unstable();
-        classes.dedup();
-        for rule in met {
-            *self.rules.entry(rule).or_default() += 1;
-        }
-        for class in classes {
-            *self.classes.entry(class).or_default() += 1;
-        }
+        count_each(&mut self.rules, answer.list.iter().map(|v| v.rule));
+        let classes = answer.list.iter().map(|v| (v.class, v.severity));
+        count_each(&mut self.classes, classes);
         let mut kinds = [[false; 14]; 61];
         for record in case.sheet.chunks_exact(RECORD) {
             let sub = if subs(record[0]) == Some(0) {
@@ -128,7 +115,7 @@ impl Coverage {
             self.full,
             FULL_SHEETS,
         );
-        for rule in 1..39 {
+        for rule in RULES {
             need(format!("rule {rule}"), get(&self.rules, rule), SHEETS_EACH);
             let class = class_and_severity(rule);
             need(
@@ -195,6 +182,16 @@ impl Coverage {
 fn print_row(parts: impl Iterator<Item = String>) {
     for line in parts.collect::<Vec<String>>().chunks(10) {
         println!("  {}", line.join(", "));
+    }
+}
+
+/// Counts each key once, however often it occurs.
+fn count_each<K: Ord>(counts: &mut BTreeMap<K, u64>, keys: impl Iterator<Item = K>) {
+    let mut keys: Vec<K> = keys.collect();
+    keys.sort_unstable();
+    keys.dedup();
+    for key in keys {
+        *counts.entry(key).or_default() += 1;
     }
 }
 

@@ -9,6 +9,10 @@
 //! was found are those of the file; the checker refuses the statement where the definitions
 //! compute to something else.
 
+#[allow(dead_code)]
+mod format;
+
+use format::{RECORD, VIOLATION};
 use std::fs;
 use std::io::{Error, ErrorKind, Result};
 use std::path::Path;
@@ -65,7 +69,7 @@ fn compute(rules: &Path, cases: &str, out: &Path, spoil: bool) -> Result<bool> {
     let verdict = check(out, "cases")?;
     let differing = differing(&verdict.log);
     differing.iter().take(20).for_each(|name| println!("differs: {name}"));
-    let records: usize = cases.iter().map(|case| case.sheet.len() / 32).sum();
+    let records: usize = cases.iter().map(|case| case.sheet.len() / RECORD).sum();
     let accepted = cases.iter().filter(|case| case.values[0] == 0).count();
     let told = if verdict.is_proved || !differing.is_empty() {
         format!("{} differences", differing.len())
@@ -98,7 +102,7 @@ fn read_case(rest: &mut &[u8]) -> Option<Case> {
     let mut list = Vec::new();
     let mut rules = Vec::new();
     for _ in 0..values[2] {
-        list.extend_from_slice(part(rest, 12)?);
+        list.extend_from_slice(part(rest, VIOLATION)?);
         rules.push(u16::from_le_bytes(part(rest, 2)?.try_into().ok()?));
         part(rest, 2)?;
     }

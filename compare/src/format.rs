@@ -7,6 +7,10 @@ pub const VIOLATION: usize = 12;
 /// The longest sheet and names text (rows 1 and 2).
 pub const SHEET_LIMIT: usize = 32768;
 pub const NAMES_LIMIT: usize = 16384;
+/// The most violations for each record of a sheet.
+pub const VIOLATIONS_PER_RECORD: usize = 3;
+/// Bytes of a list that holds every violation of every sheet.
+pub const LIST_LIMIT: usize = SHEET_LIMIT / RECORD * VIOLATIONS_PER_RECORD * VIOLATION;
 /// The greatest depth of a type or condition (row 7).
 pub const DEPTH_LIMIT: usize = 64;
 

@@ -2,7 +2,10 @@
 //! items moved, names laid out anew, items added, fields counted, unused bytes changed, the
 //! bound on the total.
 
-use crate::format::{has_name, kind, Record, NAMES_LIMIT, RECORD, SHEET_LIMIT};
+use crate::format::{
+    has_name, kind, Record, LIST_LIMIT, NAMES_LIMIT, RECORD, SHEET_LIMIT, VIOLATION,
+    VIOLATIONS_PER_RECORD,
+};
 use crate::generate::{self, fill_unused, Case};
 use crate::items::{split, Body, Item, FIELD_ITEMS};
 use crate::random::Random;
@@ -119,8 +122,11 @@ fn first_fault(case: &Case, before: &Answer, tried: &mut Tried) {
 }
 
 fn bound(case: &Case, before: &Answer, tried: &mut Tried) {
-    let holds = before.list.len() <= 3 * (case.sheet.len() / RECORD);
+    let total = before.list.len();
+    let holds = total <= VIOLATIONS_PER_RECORD * (case.sheet.len() / RECORD);
     tried.note("the total is at most 3 times the records", holds);
+    let fits = total * VIOLATION <= LIST_LIMIT;
+    tried.note("the longest list holds every violation", fits);
 }
 
 /// Fields are the distinct untombstoned ordinals and the violations of 14 and 16.

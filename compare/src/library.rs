@@ -12,7 +12,7 @@ mod self_test;
 use crate::coverage::Coverage;
 use crate::generate::{self, small, Case};
 use crate::laws;
-use crate::reading::class_and_severity;
+use crate::reading::{class_and_severity, RULES};
 use crate::run::{run_by, Report};
 use crate::{options, print_first, Options, CASES, LAW_CASES};
 use entry::Room;
@@ -229,7 +229,7 @@ fn all(options: &Options, is_spoiled: bool) -> bool {
     let what = format!("generated, seed {seed}");
     sum.compare(&what, cases, |i| generate::case(seed, i), spoil);
     sum.need_refusals();
-    sum.need_rules(1..=38);
+    sum.need_rules(RULES);
     sum.need_families(seed);
     if cases >= CASES {
         sum.lacks.extend(sum.report.coverage.lacks());

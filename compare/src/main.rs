@@ -184,7 +184,7 @@ fn print_answers(sheet: &[u8], names: &[u8], ours: &Answer) {
         );
     }
     print!("{}", printed(ours));
-    if ours.number != 0 || !against::names_are_utf8(sheet, names) {
+    if !is_asked(sheet, names, ours) {
         println!("-- oracle: not asked (refused, or a name is not UTF-8)");
         return;
     }
@@ -200,6 +200,14 @@ fn print_answers(sheet: &[u8], names: &[u8], ours: &Answer) {
             Err(message) => println!("{message}"),
         }
     }
+}
+
+/// Whether the Rust decides a list.
+fn is_asked(sheet: &[u8], names: &[u8], ours: &Answer) -> bool {
+    matches!(
+        against::decided_by_the_rust(sheet, names, ours),
+        against::Decided::List(_)
+    )
 }
 
 // ---------------------------------------------------------------------------
@@ -236,9 +244,7 @@ fn record_command(options: &Options, path: &str) -> Result<bool, String> {
     let told = |error: std::io::Error| format!("{path}: {error}");
     let asked = (0..options.cases.unwrap_or(CASES)).filter_map(|i| {
         let Case { sheet, names, .. } = generate::case(options.seed, i);
-        let accepted = answer(&sheet, &names).number == 0;
-        let asked = accepted && against::names_are_utf8(&sheet, &names);
-        let expected = if asked {
+        let expected = if is_asked(&sheet, &names, &answer(&sheet, &names)) {
             oracle_plain::run(&sheet, &names).ok()?
         } else {
             return None;

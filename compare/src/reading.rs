@@ -2,13 +2,14 @@
 //! written from the document's text and from nothing else.
 //!
 //! First the records are read into a tree, which gives the refusals (rows 1 to 9),
-//! then the rules (1 to 38) go over the tree in the document's order.
+//! then the rules go over the tree in the document's order.
 
 mod refusals;
 mod rules;
 mod tree;
 
 use crate::format::VIOLATION;
+use std::ops::RangeInclusive;
 
 /// What the check answers: a refusal if `number` is 1 to 9, else the full list.
 #[derive(Debug, Clone, PartialEq, Eq)]
@@ -26,7 +27,7 @@ pub struct Violation {
     pub severity: u8,
     pub offset: u32,
     pub len: u32,
-    /// The rule of document 01, 1 to 38.
+    /// The rule of document 01, one of `RULES`.
     pub rule: u16,
     /// The index of the record whose span is given.
     pub record: u16,
@@ -43,6 +44,9 @@ const CLASSES: [u16; 38] = [
     63, 63, 63, 63, 66, 67, 64, 65, // condition
     35, 34, 36, 39, 43, 42, 19, 20, // enum, flags, union, newtype
 ];
+
+/// The rules' numbers.
+pub const RULES: RangeInclusive<u16> = 1..=CLASSES.len() as u16;
 
 /// Class and severity of a rule; 21 is the one warning.
 pub fn class_and_severity(rule: u16) -> (u16, u8) {

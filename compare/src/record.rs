@@ -7,7 +7,7 @@ use crate::against::{against_oracles, Outcome};
 use crate::coverage::Coverage;
 use crate::format::{kind, subs, NAMES_LIMIT, RECORD};
 use crate::generate::{self, small, Case};
-use crate::reading::{answer, class_and_severity, Answer};
+use crate::reading::{answer, class_and_severity, Answer, RULES};
 
 const SEED: u64 = 1;
 /// How many generated cases are looked at for a boundary length or a full sheet.
@@ -34,8 +34,8 @@ pub struct Selection {
     pub spoiled: usize,
 }
 
-/// The cases to record, or what is wrong with them: a difference from an oracle, or
-/// something that none of them meets.
+/// The cases to record with the second reading's answers, or what is wrong with them: an oracle
+/// that differs on what the Rust decides, or something that none of them meets.
 pub fn selection() -> Result<Selection, String> {
     let mut coverage = Coverage::default();
     let mut cases = Vec::new();
@@ -125,7 +125,7 @@ fn lacks(coverage: &Coverage, cases: &[Recorded]) -> Vec<String> {
         let is_met = coverage.refusals.keys().any(|key| key.0 == number);
         need(format!("refusal {number}"), is_met);
     }
-    for rule in 1..39 {
+    for rule in RULES {
         need(format!("rule {rule}"), coverage.rules.contains_key(&rule));
         let class = class_and_severity(rule);
         need(

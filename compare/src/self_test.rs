@@ -1,5 +1,6 @@
 //! Whether the comparison notices spoiled answers.
 
+use crate::against::RULES_OF_THE_RUST;
 use crate::reading::{Answer, Violation};
 use crate::run::{run, Source};
 
@@ -32,12 +33,26 @@ fn first(answer: &mut Answer, spoil: fn(&mut Violation)) {
     answer.list.iter_mut().take(1).for_each(spoil);
 }
 
-/// True if each spoiled answer was noticed, and no sound one.
+/// One violation more, by a rule that the Rust has not.
+fn by_another_rule(answer: &mut Answer) {
+    answer.list.push(Violation {
+        class: u16::MAX,
+        severity: 0,
+        offset: 0,
+        len: 0,
+        rule: RULES_OF_THE_RUST.end() + 1,
+        record: 0,
+    });
+}
+
+/// True if each spoiled answer was noticed, and no sound one, nor what the Rust does not decide.
 pub fn notices() -> bool {
     let sound = run(SOURCE, CASES, |_| {});
     println!("as they are: {} differences", sound.differences);
     let lists = run(SOURCE, CASES, |a| first(a, |v| v.class = u16::MAX)).differences;
-    let mut all = sound.differences == 0 && lists > 0;
+    let others = run(SOURCE, CASES, by_another_rule).differences;
+    println!("one more, by a rule that the Rust has not: {others} differences");
+    let mut all = sound.differences == 0 && others == 0 && lists > 0;
     for (what, spoiler) in SPOILERS {
         let noticed = run(SOURCE, CASES, spoiler).differences;
         println!("{what}: {noticed} of {lists} noticed");

@@ -1,8 +1,5 @@
 //! The built library's entry.
 
-/// Bytes of a list that holds every violation of any sheet.
-pub const LIST: usize = 36864;
-
 /// An answer's four numbers.
 #[repr(C)]
 #[derive(Debug, Clone, Copy, PartialEq, Eq)]

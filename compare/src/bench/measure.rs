@@ -4,8 +4,8 @@ use std::hint::black_box;
 use std::time::{Duration, Instant};
 
 use crate::clock;
-use crate::format::VIOLATION;
-use crate::library::{self, Answer, LIST};
+use crate::format::{LIST_LIMIT, VIOLATION};
+use crate::library::{self, Answer};
 
 /// How much is measured of a sheet: at most `rounds` rounds, and none begun after `limit`.
 #[derive(Clone, Copy)]
@@ -49,7 +49,7 @@ impl Times {
 /// The number of violations of a sheet. `Err` says where library and Rust differ.
 pub fn agreed(sheet: &[u8], names: &[u8]) -> Result<usize, String> {
     let found = oracle_lean::run(sheet, names)?;
-    let mut expected = vec![0xA5; LIST];
+    let mut expected = vec![0xA5; LIST_LIMIT];
     for (i, one) in found.iter().enumerate() {
         let bytes = &mut expected[VIOLATION * i..VIOLATION * (i + 1)];
         bytes[..2].copy_from_slice(&one.class.to_le_bytes());
@@ -64,14 +64,14 @@ pub fn agreed(sheet: &[u8], names: &[u8]) -> Result<usize, String> {
         total: found.len() as u32,
         errors: errors as u32,
     };
-    let mut list = vec![0xA5; LIST];
+    let mut list = vec![0xA5; LIST_LIMIT];
     let answer = library::check(sheet, names, &mut list);
     if answer != right {
         return Err(format!(
             "the library answers {answer:?}, the Rust {right:?}"
         ));
     }
-    match (0..LIST).find(|i| list[*i] != expected[*i]) {
+    match (0..LIST_LIMIT).find(|i| list[*i] != expected[*i]) {
         Some(i) => Err(format!("the lists differ at byte {i}")),
         None => Ok(found.len()),
     }
@@ -80,7 +80,7 @@ pub fn agreed(sheet: &[u8], names: &[u8]) -> Result<usize, String> {
 /// Measures library, ready tree and whole way in turn, round by round.
 pub fn measure(sheet: &[u8], names: &[u8], effort: Effort) -> Times {
     let tree = oracle_lean::build(sheet, names).expect("an accepted sheet");
-    let mut list = vec![0; LIST];
+    let mut list = vec![0; LIST_LIMIT];
     let mut library = Part::new(|| {
         black_box(library::check(
             black_box(sheet),
@@ -112,7 +112,7 @@ pub fn measure(sheet: &[u8], names: &[u8], effort: Effort) -> Times {
 
 /// The best time of clearing a list.
 pub fn clearing() -> f64 {
-    let mut list = vec![0u8; LIST];
+    let mut list = vec![0u8; LIST_LIMIT];
     let mut part = Part::new(|| black_box(&mut list).fill(0));
     for _ in 0..200 {
         part.round();

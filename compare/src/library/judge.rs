@@ -3,7 +3,7 @@
 
 use super::entry::{call, Part, Room, Values, GUARD};
 use crate::against::{against_oracles, Outcome};
-use crate::format::VIOLATION;
+use crate::format::{LIST_LIMIT, VIOLATION};
 use crate::generate::Case;
 use crate::hex;
 use crate::random::Random;
@@ -12,8 +12,6 @@ use std::cell::Cell;
 use std::ops::Range;
 use std::sync::atomic::{AtomicU64, Ordering};
 
-/// Bytes that hold the full list of every accepted sheet.
-pub const WHOLE: usize = 36_864;
 const ROOM: usize = 1 << 16;
 
 /// The sorts of list buffers.
@@ -29,7 +27,7 @@ pub enum Buffer {
     Cut,
     Exact,
     Long,
-    /// Of `WHOLE` bytes.
+    /// Of `LIST_LIMIT` bytes.
     Whole,
 }
 
@@ -49,12 +47,11 @@ impl Buffer {
         match self {
             Buffer::Absent | Buffer::Empty => Some(0),
             Buffer::Short => (total > 1).then(|| random.between(1, total - 1) * VIOLATION),
-            Buffer::Cut => {
-                (total > 0).then(|| random.below(total) * VIOLATION + random.between(1, 11))
-            }
+            Buffer::Cut => (total > 0)
+                .then(|| random.below(total) * VIOLATION + random.between(1, VIOLATION - 1)),
             Buffer::Exact => (total > 0).then_some(total * VIOLATION),
             Buffer::Long => Some(total * VIOLATION + random.between(1, 100)),
-            Buffer::Whole => Some(WHOLE),
+            Buffer::Whole => Some(LIST_LIMIT),
         }
     }
 }
@@ -149,6 +146,10 @@ impl<'a> Judge<'a> {
         if !self.sheet.holds(sheet, &case.sheet) || !self.names.holds(names, &case.names) {
             return Err("the sheet or the names text was changed".to_string());
         }
+        // A list tells neither rule nor record: its violations are the reading's.
+        for (told, read) in list.iter_mut().zip(&wanted.list) {
+            (told.rule, told.record) = (read.rule, read.record);
+        }
         let Answer {
             number,
             index,
@@ -202,9 +203,9 @@ impl<'a> Judge<'a> {
 
 /// The library's answer in a buffer that holds every list.
 pub fn library_answer(room: &mut Room, sheet: Part, names: Part) -> Answer {
-    let at = room.len() - WHOLE;
+    let at = room.len() - LIST_LIMIT;
     room.bytes()[at..].fill(0xA5);
-    let values = call(sheet, names, room.part(at, WHOLE));
+    let values = call(sheet, names, room.part(at, LIST_LIMIT));
     Answer {
         number: values.number,
         index: values.index,

@@ -149,9 +149,12 @@ fn great_lengths(odd: &mut Odd) {
         let values = call(sheet_part, great.part(0, len), list);
         odd.check(&format!("a names text of {len} bytes"), refused(values, 2));
     }
-    odd.check("the list is untouched", room.bytes()[2048..2060] == [0; 12]);
+    odd.check(
+        "the list is untouched",
+        room.bytes()[2048..2048 + VIOLATION] == [0; VIOLATION],
+    );
     let wanted = answer(&good, &names);
-    for len in [OVER, OVER + 1, OVER + 11, OVER + 12] {
+    for len in [OVER, OVER + 1, OVER + VIOLATION - 1, OVER + VIOLATION] {
         great.bytes()[..ROOM].fill(NOISE);
         let values = call(sheet_part, names_part, great.part(0, len));
         let mut expected = vec![NOISE; ROOM];
