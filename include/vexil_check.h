@@ -19,11 +19,13 @@ extern "C" {
 
 /* Sizes, in bytes. */
 enum {
-    VEXIL_RECORD_SIZE = 32,     /* a record of a sheet */
-    VEXIL_SHEET_MAX = 32768,    /* the longest sheet that is accepted: 1024 records */
-    VEXIL_NAMES_MAX = 16384,    /* the longest names text that is accepted */
-    VEXIL_VIOLATION_SIZE = 12,  /* a violation of the list */
-    VEXIL_LIST_MAX = 36864      /* a list of this size holds every violation of every sheet: 3 for each record */
+    VEXIL_RECORD_SIZE = 32,          /* a record of a sheet */
+    VEXIL_SHEET_MAX = 32768,         /* the longest sheet that is accepted: 1024 records */
+    VEXIL_NAMES_MAX = 16384,         /* the longest names text that is accepted */
+    VEXIL_VIOLATION_SIZE = 12,       /* a violation of the list */
+    VEXIL_VIOLATIONS_PER_RECORD = 3, /* no bytes: the most violations for each record of a sheet */
+    /* a list of this size holds every violation of every sheet */
+    VEXIL_LIST_MAX = VEXIL_SHEET_MAX / VEXIL_RECORD_SIZE * VEXIL_VIOLATIONS_PER_RECORD * VEXIL_VIOLATION_SIZE
 };
 
 /* What a call answers. */

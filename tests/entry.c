@@ -67,14 +67,15 @@ int main(int argc, char **argv) {
     expect(vexil_written(answer, sizeof list) == 2, "both are written");
     expect(is_violation(vexil_violation_at(list, 0), VEXIL_CLASS_ORDINAL_REUSED_AFTER_REMOVED, VEXIL_ERROR, 106, 1), "the first one");
     expect(is_violation(vexil_violation_at(list, 1), VEXIL_CLASS_LIMIT_ZERO, VEXIL_ERROR, 120, 9), "the second one");
-    expect(memcmp(list + 24, old + 24, sizeof list - 24) == 0, "the bytes after them are kept");
+    expect(memcmp(list + 2 * VEXIL_VIOLATION_SIZE, old + 2 * VEXIL_VIOLATION_SIZE, sizeof list - 2 * VEXIL_VIOLATION_SIZE) == 0, "the bytes after them are kept");
 
     memcpy(list, old, sizeof list);
-    answer = check(sheet, SHEET_LEN, list, 23);
+    const size_t cut = 2 * VEXIL_VIOLATION_SIZE - 1;
+    answer = check(sheet, SHEET_LEN, list, cut);
     expect(is_answer(answer, VEXIL_ACCEPTED, 0, 2, 2), "the total does not depend on the list's length");
-    expect(vexil_written(answer, 23) == 1, "one whole violation fits 23 bytes");
+    expect(vexil_written(answer, cut) == 1, "one whole violation fits a byte less than two take");
     expect(is_violation(vexil_violation_at(list, 0), VEXIL_CLASS_ORDINAL_REUSED_AFTER_REMOVED, VEXIL_ERROR, 106, 1), "it is the first");
-    expect(memcmp(list + 12, old + 12, sizeof list - 12) == 0, "what does not fit whole is not written");
+    expect(memcmp(list + VEXIL_VIOLATION_SIZE, old + VEXIL_VIOLATION_SIZE, sizeof list - VEXIL_VIOLATION_SIZE) == 0, "what does not fit whole is not written");
 
     answer = check(sheet, SHEET_LEN, NULL, 0);
     expect(is_answer(answer, VEXIL_ACCEPTED, 0, 2, 2), "a list may be null with length 0");
@@ -82,8 +83,8 @@ int main(int argc, char **argv) {
     memcpy(list, old, sizeof list);
     answer = vexil_check(NULL, 0, NULL, 0, list, sizeof list);
     expect(is_answer(answer, VEXIL_REFUSED_OUT_OF_ORDER, 0, 0, 0), "sheet and names may be null with length 0: an empty sheet");
-    answer = check(sheet, 31, list, sizeof list);
-    expect(is_answer(answer, VEXIL_REFUSED_SHEET_LENGTH, 0, 0, 0), "31 bytes are no sheet");
+    answer = check(sheet, VEXIL_RECORD_SIZE - 1, list, sizeof list);
+    expect(is_answer(answer, VEXIL_REFUSED_SHEET_LENGTH, 0, 0, 0), "a record less a byte is no sheet");
     answer = vexil_check(sheet, SHEET_LEN, (const uint8_t *)names, NAMES_LEN - 1, list, sizeof list);
     expect(is_answer(answer, VEXIL_REFUSED_NAME_RANGE, 4, 0, 0), "the last name is cut");
     answer = check(sheet, SHEET_LEN - VEXIL_RECORD_SIZE, list, sizeof list);

@@ -1,6 +1,7 @@
 //! The sheet in numbers: limits, kinds and the 32 bytes of a record.
 
 use crate::tree::Span;
+use crate::violation::Violation;
 
 /// The bytes of a record of a sheet.
 pub const RECORD: usize = 32;
@@ -14,8 +15,10 @@ pub const NAME_LIMIT: usize = 255;
 pub const DEPTH_LIMIT: usize = 64;
 /// The greatest ordinal.
 pub const ORDINAL_LIMIT: u64 = u32::MAX as u64;
-/// The bytes of a list that holds the violations of any sheet: three for each record.
-pub const LIST_LIMIT: usize = 3 * RECORD_LIMIT * 12;
+/// The most violations for each record of a sheet.
+pub const VIOLATIONS_PER_RECORD: usize = 3;
+/// The bytes of a list that holds the violations of any sheet.
+pub const LIST_LIMIT: usize = VIOLATIONS_PER_RECORD * RECORD_LIMIT * Violation::SIZE;
 
 /// The numbers of the kinds.
 pub mod kind {

@@ -36,7 +36,7 @@ impl Violation {
     /// The bytes of a written violation.
     pub const SIZE: usize = 12;
 
-    /// The violation in 12 bytes: class, severity, a byte that is zero, offset, length.
+    /// The violation in its bytes: class, severity, a byte that is zero, offset, length.
     fn decode(bytes: &[u8]) -> Violation {
         Violation {
             class: ErrorClass::from_number(u16::from_le_bytes([bytes[0], bytes[1]])),

@@ -397,7 +397,20 @@ fn lists_of_every_length() {
     let all: Vec<Violation> = Violations::new(&whole, 19).collect();
     assert_eq!(all.len(), 19);
     // none, less than one, one, one cut, all but one, all but one cut, all, more
-    for len in [0, 11, 12, 23, 216, 227, 228, 229, 240, LIST_LIMIT] {
+    let most = 19 * Violation::SIZE;
+    let lengths = [
+        0,
+        Violation::SIZE - 1,
+        Violation::SIZE,
+        2 * Violation::SIZE - 1,
+        most - Violation::SIZE,
+        most - 1,
+        most,
+        most + 1,
+        most + Violation::SIZE,
+        LIST_LIMIT,
+    ];
+    for len in lengths {
         let mut list = vec![0xa5; len];
         assert_eq!(sheet.check(&mut list), answer);
         let written = (len / Violation::SIZE).min(19);
@@ -412,7 +425,7 @@ fn lists_of_every_length() {
 
 #[test]
 fn violations_stop_at_the_total_and_at_the_list() {
-    let list = [0xff; 40];
+    let list = [0xff; 3 * Violation::SIZE + 4];
     assert_eq!(Violations::new(&list, 0).count(), 0);
     assert_eq!(Violations::new(&list, 2).count(), 2);
     assert_eq!(Violations::new(&list, 3).count(), 3);
