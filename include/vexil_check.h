@@ -2,10 +2,10 @@
  * vexil_check: lists every violation of a declaration in a Vexil schema.
  *
  * The declaration is handed over as a sheet of 32-byte records and a names text; docs/FORMAT.md says how a sheet is laid out, with a
- * sheet worked out byte by byte. `./archive` writes target/staticlib/libvalidate.a, which has the function; it links into x86-64
+ * sheet worked out byte by byte. `./archive` writes target/staticlib/libdilomevay.a, which has the functions; it links into x86-64
  * programs:
  *
- *     cc -std=c11 -Iinclude program.c target/staticlib/libvalidate.a
+ *     cc -std=c11 -Iinclude program.c target/staticlib/libdilomevay.a
  */
 #ifndef VEXIL_CHECK_H
 #define VEXIL_CHECK_H
@@ -16,6 +16,15 @@
 #ifdef __cplusplus
 extern "C" {
 #endif
+
+/* The version of this header. Each later change of a struct, or of a buffer that the library itself writes, raises it; nothing else does. */
+#define VEXIL_VERSION 1
+
+/*
+ * The version of the library. A program that is linked with a library of another version than its header's makes no other call: the
+ * library may write other bytes than the program expects.
+ */
+uint32_t vexil_version(void);
 
 /* Sizes, in bytes. */
 enum {

@@ -60,6 +60,8 @@ int main(int argc, char **argv) {
     size_t length = file == NULL ? 0 : fread(from_file, 1, sizeof from_file, file);
     expect(length == SHEET_LEN && memcmp(sheet, from_file, SHEET_LEN) == 0, "vexil_put_record writes the worked sheet");
 
+    expect(vexil_version() == VEXIL_VERSION, "the library has the header's version");
+
     memset(old, 0xa5, sizeof old);
     memcpy(list, old, sizeof list);
     struct vexil_answer answer = check(sheet, SHEET_LEN, list, sizeof list);

@@ -6,7 +6,7 @@ use std::process::exit;
 
 /// The variable that names another folder for the library; a relative one begins at this package.
 const FOLDER: &str = "VEXIL_CHECK_LIB_DIR";
-const LIBRARY: &str = "libvalidate.a";
+const LIBRARY: &str = "libdilomevay.a";
 
 /// The folder of the library: the one that the variable names, or the repository's.
 fn folder() -> PathBuf {
@@ -33,5 +33,5 @@ fn main() {
         exit(1);
     }
     println!("cargo:rustc-link-search=native={}", folder.display());
-    println!("cargo:rustc-link-lib=static=validate");
+    println!("cargo:rustc-link-lib=static=dilomevay");
 }

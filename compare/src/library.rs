@@ -1,5 +1,5 @@
 //! The built library against the second reading and the oracles. `compare/library` builds
-//! this part of the program, which links `target/staticlib/libvalidate.a`.
+//! this part of the program, which links `target/staticlib/libdilomevay.a`.
 
 mod boundaries;
 mod chosen;

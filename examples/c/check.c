@@ -5,7 +5,7 @@
  * total and errors; or `refused N at I`.
  *
  *     ./archive
- *     cc -std=c11 -Iinclude -o target/check examples/c/check.c target/staticlib/libvalidate.a
+ *     cc -std=c11 -Iinclude -o target/check examples/c/check.c target/staticlib/libdilomevay.a
  *     target/check examples/request
  */
 #include <errno.h>
@@ -49,6 +49,10 @@ int main(int argc, char **argv) {
 
     if (argc > 2) {
         fprintf(stderr, "usage: check [FOLDER]\n");
+        return 2;
+    }
+    if (vexil_version() != VEXIL_VERSION) {
+        fprintf(stderr, "check: the library has version %u, the header %u\n", (unsigned)vexil_version(), (unsigned)VEXIL_VERSION);
         return 2;
     }
     const char *folder = argc == 2 ? argv[1] : ".";

@@ -11,7 +11,12 @@ struct AnswerValues {
     errors: u32,
 }
 
+/// The version of structs and buffers that this package is written for: `VEXIL_VERSION` of the C header.
+pub const VERSION: u32 = 1;
+
 extern "C" {
+    fn vexil_version() -> u32;
+
     fn vexil_check(
         sheet: *const u8,
         sheet_len: usize,
@@ -20,6 +25,20 @@ extern "C" {
         list: *mut u8,
         list_len: usize,
     ) -> AnswerValues;
+}
+
+/// The version of the library that is linked. A call panics where it is not [`VERSION`].
+pub fn library_version() -> u32 {
+    // SAFETY: the function takes nothing and gives a number.
+    unsafe { vexil_version() }
+}
+
+/// A library of another version may write other bytes than this package lends it.
+fn demand(version: u32) {
+    assert!(
+        version == VERSION,
+        "the library that is linked has version {version}, and this package is for version {VERSION}"
+    );
 }
 
 /// Checks the declaration on a sheet.
@@ -32,10 +51,11 @@ extern "C" {
 ///
 /// # Panics
 ///
-/// If the library that is linked gives a refusal without a number from 1 to 9, which the check of this
+/// If the library that is linked has another version than [`VERSION`], or gives a refusal without a number from 1 to 9, which the check of this
 /// repository is proved not to.
 pub fn check(sheet: &[u8], names: &[u8], list: &mut [u8]) -> Answer {
-    // SAFETY: each pointer and length is that of a slice, which is valid for the whole call; `list` is
+    demand(library_version());
+    // SAFETY: the library has the version that the struct is laid out for. Each pointer and length is that of a slice, which is valid for the whole call; `list` is
     // borrowed mutably, so that it overlaps neither of the others. The library keeps none of them.
     let values = unsafe {
         vexil_check(
@@ -57,5 +77,16 @@ pub fn check(sheet: &[u8], names: &[u8], list: &mut [u8]) -> Answer {
     Answer::Refused {
         refusal,
         index: values.index,
+    }
+}
+
+#[cfg(test)]
+mod tests {
+    use super::*;
+
+    #[test]
+    #[should_panic(expected = "has version 2, and this package is for version 1")]
+    fn a_library_of_another_version() {
+        demand(2);
     }
 }

@@ -5,6 +5,7 @@
 //! It is written in Rattle and proved; this package links it (see `build.rs`) and wraps it safely.
 //!
 //! - [`check`] is the call itself, on byte slices. It allocates nothing.
+//! - [`library_version`] is the version of the library that is linked; [`check`] panics where it is not [`VERSION`].
 //! - [`Violations`] reads the list that a call has written; [`Report`] is a call with all of its list.
 //! - [`Context`] lays out sheets from the values of [`tree`], which have the compiler's shape.
 //! - [`text`] shows a sheet as text and makes one from text; the program `sheet` is made of it.
@@ -45,7 +46,7 @@ pub mod tree;
 mod violation;
 
 pub use answer::{Answer, Refusal};
-pub use call::check;
+pub use call::{check, library_version, VERSION};
 pub use class::ErrorClass;
 pub use context::{BuildError, Context, Fault, Sheet};
 pub use report::Report;

@@ -51,6 +51,11 @@ fn example() -> Vec<u8> {
 }
 
 #[test]
+fn the_library_has_the_packages_version() {
+    assert_eq!(library_version(), VERSION);
+}
+
+#[test]
 fn the_printed_example() {
     let report = Report::of(&example(), b"a");
     assert_eq!(report.to_string(), "16 E 12 1\ntotal 1 errors 1\n");

@@ -10,7 +10,7 @@ pub struct Answer {
     pub errors: u32,
 }
 
-#[link(name = "validate", kind = "static")]
+#[link(name = "dilomevay", kind = "static")]
 extern "C" {
     fn vexil_check(
         sheet: *const u8,

@@ -8,7 +8,7 @@ mod whole;
 use rules::AnswerValues;
 pub use whole::check;
 
-// The check, as numbers, which `validate_c` exports for callers in other languages. The list gets the violations that fit it, in whole records;
+// The check, as numbers, which `dilomevay` exports for callers in other languages. The list gets the violations that fit it, in whole records;
 // a call that is refused changes no byte of it.
 #[tactic(auto, using(crate::proofs::Answers::told_answered))]
 pub fn vexil_check(sheet: &[u8], names: &[u8], list: &mut [u8]) -> AnswerValues
