@@ -24,6 +24,8 @@ pub mod Reading
 pub mod Spreading
 pub mod Shortened
 pub mod Targeted
+pub mod ShortTables
+pub mod ChainEnds
 pub mod Renamed
 pub mod Behind
 pub mod Chain

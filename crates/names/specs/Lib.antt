@@ -7,5 +7,6 @@ pub mod WordOf
 pub mod Known
 pub mod Same
 pub mod SameEnds
+pub mod Ends
 pub mod Code
 pub mod NamedRecord

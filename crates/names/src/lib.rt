@@ -1,4 +1,4 @@
-// The table of names: what the rules ask of the name of each record, worked out once.
+// The table of names: what the rules ask of the name of each record, worked out once, and written here alone.
 #![tactic(auto)]
 
 mod asked;
@@ -6,6 +6,7 @@ mod codes;
 mod compare;
 mod context;
 mod count;
+mod ends;
 mod hash;
 mod ids;
 mod notes;
@@ -18,6 +19,7 @@ mod whole;
 mod words;
 
 pub use context::ValidationContext;
+pub use ends::never_ends;
 pub use table::NameTable;
 pub use whole::fill;
 pub use words::Word;

@@ -10,24 +10,24 @@ ghost use Rattle.names.specs.SameEnds.{with_target};
 use rules::Sheet;
 use std::marker::Model;
 
-// Five numbers for each record, and two for the sheet. A place is a record's index and one more; 0 is none. Any numbers are a table, and whoever likes can make
-// it: it says what it is asked, and is right once it is filled. An import and a wildcard are numbers too, 1 where there is one: they stand in the definition's
+// Five numbers for each record, and two for the sheet. A place is a record's index and one more; 0 is none. Any numbers are a
+// table: it says what it is asked, and is right once it is filled, which this crate alone does. An import and a wildcard are numbers too, 1 where there is one: they stand in the definition's
 // list of numbers, and `entry` and `is_zero` read all parts alike; of a `bool` each law of the view would have to make a number. The parts stand side by side
 // and not in one array of structs: `is_silent` looks through two of them, and the definition's list has one after the other.
 #[derive(Drop)]
 pub struct NameTable {
-    pub ids: [u16; Sheet::MAX_RECORDS],
+    ids: [u16; Sheet::MAX_RECORDS],
     // the places of the first declarations
-    pub declarations: [u16; Sheet::MAX_RECORDS],
+    declarations: [u16; Sheet::MAX_RECORDS],
     // 1 at an imported name
-    pub imported: [u16; Sheet::MAX_RECORDS],
+    imported: [u16; Sheet::MAX_RECORDS],
     // the places of the types that names are declared with
-    pub targets: [u16; Sheet::MAX_RECORDS],
-    pub codes: [u16; Sheet::MAX_RECORDS],
+    targets: [u16; Sheet::MAX_RECORDS],
+    codes: [u16; Sheet::MAX_RECORDS],
     // 1 if there is a wildcard
-    pub wildcards: u16,
+    wildcards: u16,
     // how many declarations there are
-    pub declared: u16,
+    declared: u16,
 }
 
 // Clauses see all numbers, part by part.
@@ -135,7 +135,7 @@ impl NameTable {
 
     // Has the table lead from the name of record `i` to the type at that place, which is any number, as the numbers of a table are.
     #[tactic(auto, using(crate::proofs::Joined::stored_fourth), unfolding(crate::specs::SameEnds::with_target))]
-    pub fn set_target(&mut self, i: usize, place: u16)
+    pub(crate) fn set_target(&mut self, i: usize, place: u16)
         ensures { self.new ≡ with_target self.old i place }
     {
         if i < Sheet::MAX_RECORDS {

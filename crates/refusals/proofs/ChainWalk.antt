@@ -14,6 +14,8 @@ use Rattle.rules.specs.Context.{ValidationContext, never_ends}
 use Rattle.rules.specs.Refusals.{Fault, leads_nowhere, endless_chain}
 use Rattle.rules.proofs.Chains.{is_some}
 use Rattle.names.specs.View.{view_at, view_of, context_by}
+use Rattle.names.specs.SameEnds.{leads_on, SameEnds}
+use Rattle.names.specs.Ends.{Kept}
 use Rattle.names.proofs.Views.{view-cons, view-none}
 use Rattle.refusals.specs.Pass.{Ended}
 use Rattle.refusals.specs.Turned.{endless_by}
@@ -87,3 +89,14 @@ endless-number a i (r ∷ rs) f e = go (is_renaming r && leads_nowhere a rs) (en
         elim b [ true ↦ some (record { number = 9; index = i }) | false ↦ endless_chain a (suc i) rs ] ≡ some f → f.number ≡ 9
     go true ih e = sym (ap (λ o. elim o [ none ↦ 9 | some g ↦ g.number ]) e)
     go false ih e = ih e
+
+-- by a table that was kept, the same chains never end
+same-nowhere : (a b : ValidationContext ℕ Span) (rs : List (Rec ℕ Span)) → SameEnds a b → leads_nowhere b rs ≡ leads_nowhere a rs
+same-nowhere a b [] same = refl
+same-nowhere a b (t ∷ rs) same = sym (ap (leads_on a) (same.ends t) ∙ same.leads _)
+
+pub kept_nowhere : (sheet before table : List ℕ) (i n : ℕ) (b : Bool) → Kept sheet before table
+    → b ≡ (is_renaming (view_at sheet i) && leads_nowhere (context_by table sheet) (view_of sheet (i + 1) n))
+    → b ≡ (is_renaming (view_at sheet i) && leads_nowhere (context_by before sheet) (view_of sheet (i + 1) n))
+kept_nowhere sheet before table i n b kept e =
+    e ∙ ap (λ x. is_renaming (view_at sheet i) && x) (same-nowhere _ _ (view_of sheet (i + 1) n) kept.same)

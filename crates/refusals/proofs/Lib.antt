@@ -1,8 +1,7 @@
 pub mod RecordBytes
 pub mod OwnFaults
 pub mod ChainWalk
-pub mod ShortTables
-pub mod ChainEnds
+pub mod LeftTables
 pub mod Passes
 pub mod PlainRuns
 -- The rows in turn, and the filled table.

@@ -18,7 +18,7 @@ use Rattle.rules.specs.declared.answer.Refused.{Refused}
 use Rattle.std.specs.Prelude.{Result, Ok}
 use Rattle.refusals.specs.Pass.{is_second, first_fault_by, passed_of}
 use Rattle.refusals.specs.Turned.{endless_by, refusal_by}
-use Rattle.refusals.specs.Ends.{LeftBy}
+use Rattle.refusals.specs.Left.{LeftBy}
 use Rattle.refusals.proofs.Filled.{pass-filled}
 
 abbrev in_turn : Option Fault → Bool → Bool → Option Fault

@@ -3,4 +3,4 @@ pub mod Answers
 pub mod Pass
 pub mod Runs
 pub mod Turned
-pub mod Ends
+pub mod Left

@@ -6,7 +6,7 @@ ghost use Rattle.names.specs.View.{context_by};
 ghost use Rattle.names.specs.SameEnds.{SameEnds};
 ghost use Rattle.refusals.specs.Pass.{verdict_of};
 ghost use Rattle.refusals.specs.Turned.{refusal_by};
-ghost use Rattle.refusals.specs.Ends.{LeftBy};
+ghost use Rattle.refusals.specs.Left.{LeftBy};
 
 use crate::chain::endless;
 use crate::order::refused_at;

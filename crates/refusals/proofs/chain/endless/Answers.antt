@@ -1,7 +1,7 @@
 -- A newtype whose chain ends is passed, and behind the newtypes no record is one.
 use Rattle.std.proofs.Common.{rules, arith}
-use Rattle.refusals.proofs.ChainWalk.{endless_starts, endless_found, endless_again, past_end}
-use Rattle.refusals.proofs.ChainEnds.{kept_itself, kept_through, kept_nowhere}
+use Rattle.names.proofs.ChainEnds.{kept_itself, kept_through}
+use Rattle.refusals.proofs.ChainWalk.{endless_starts, endless_found, endless_again, past_end, kept_nowhere}
 use Rattle.refusals.proofs.chain.endless.Goals as goal
 
 pub loop-i-init : goal.loop-i-init

@@ -3,7 +3,7 @@ use Rattle.std.proofs.Common.{◌≡◌}
 use Rattle.rules.specs.Refusals.{endless_chain}
 use Rattle.names.specs.View.{view_of, context_by}
 use Rattle.refusals.specs.Turned.{endless_by}
-use Rattle.refusals.specs.Ends.{Kept}
+use Rattle.names.specs.Ends.{Kept}
 use Rattle.refusals.proofs.chain.endless.Given as goal
 
 abbrev pub invariant-loop-i : goal.invariant-loop-i

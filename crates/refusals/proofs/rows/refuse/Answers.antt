@@ -3,7 +3,7 @@ use Rattle.std.proofs.lemmas.Result.{err_from_is_err_and}
 use Rattle.rules.proofs.AcceptedSheet.{short-sheet}
 use Rattle.names.proofs.Shortened.{same-itself}
 use Rattle.refusals.proofs.InTurn.{wrong-length, long-names, row_1, row_2, rows_3_to_8, row_9, ended_found}
-use Rattle.refusals.proofs.ShortTables.{left-itself, left-by-row-9}
+use Rattle.refusals.proofs.LeftTables.{left-itself, left-by-row-9}
 use Rattle.refusals.proofs.RefusalFilled.{passed_lasting}
 use Rattle.refusals.proofs.rows.refuse.Goals as goal
 

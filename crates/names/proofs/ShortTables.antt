@@ -6,26 +6,19 @@ use native.Mathlib.Omega.{arith}
 use mathlib.Core.Path.{◌≡◌, refl, sym, ap, ap₂, ◌∙◌}
 use mathlib.Core.Bool.{true, false, true≢false}
 use mathlib.Core.List.{List, ◌++◌}
-use mathlib.Core.Option.{Option}
 use lib.ListN.{length, get_or, take, drop, set, length-take}
 use lib.Seq.{set_out, take-append_seam, drop-append_seam}
 use Rattle.std.proofs.lemmas.List.{length-set, take-set-le, drop-set-lt, get_or-take, get_or-drop}
-use Rattle.rules.specs.Refusals.{Fault}
 use Rattle.rules.proofs.Chains.{is_some, none-there}
 use Rattle.names.specs.View.{view_at, entry_of, target_part, context_by}
 use Rattle.names.specs.SameEnds.{leads_on, SameEnds, with_target}
 use Rattle.names.proofs.Entries.{entry_in, entry-out}
 use Rattle.names.proofs.Targeted.{target-in, target-out, other-entry, own-entry}
-use Rattle.refusals.specs.Turned.{endless_by}
-use Rattle.refusals.specs.Ends.{EndsAt, TargetOf, own, at_end, beside_targets, Shortened, Kept, LeftBy}
-use Rattle.refusals.proofs.ChainWalk.{endless-number}
+use Rattle.names.specs.Ends.{EndsAt, TargetOf, own, at_end, beside_targets, Shortened}
 
 -- a table that is not changed
 pub shortened-itself : (sheet table : List ℕ) → Shortened sheet table table
 shortened-itself sheet table = record { size = refl; others = refl; targets = λ k. own refl }
-
-pub left-itself : (verdict : Option Fault) (sheet table : List ℕ) → LeftBy verdict sheet table table
-left-itself verdict sheet table = record { short = shortened-itself sheet table; untouched = λ f e h. refl }
 
 -- what a store among the targets leaves as it was
 stored :
@@ -36,6 +29,13 @@ stored f table i place h = go (dec_lt i 1024)
     go : Dec (i < 1024) → f (with_target table i place) ≡ f table
     go (yes l) = ap f (sym (target-in table i place l)) ∙ h l
     go (no l) = ap f (sym (target-out table i place (omega arith)))
+
+pub beside_stored : (table : List ℕ) (i place : ℕ) → beside_targets (with_target table i place) ≡ beside_targets table
+unfolding beside_targets
+beside_stored table i place =
+    ap₂ ◌++◌
+    (stored (take 3072) table i place (λ h. take-set-le 3072 table (3072 + i) place (omega arith)))
+    (stored (drop 4096) table i place (λ h. drop-set-lt 4096 table (3072 + i) place (omega arith)))
 
 -- a table that leads to the end from a type that its chain leads on from
 module _ (sheet table : List ℕ) (i e : ℕ) (leads : leads_on (context_by table sheet) (view_at sheet i) ≡ true) (ends : EndsAt table sheet i e) where
@@ -52,14 +52,10 @@ module _ (sheet table : List ℕ) (i e : ℕ) (leads : leads_on (context_by tabl
       go (yes q) (yes x) (yes y) = rw q (at_end e leads ends (own-entry table i (suc e) x y))
 
   pub shortened-now : Shortened sheet table (with_target table i (suc e))
-  unfolding beside_targets
   shortened-now =
       record {
         size = stored length table i (suc e) (λ h. length-set table (3072 + i) (suc e));
-        others =
-            ap₂ ◌++◌
-            (stored (take 3072) table i (suc e) (λ h. take-set-le 3072 table (3072 + i) (suc e) (omega arith)))
-            (stored (drop 4096) table i (suc e) (λ h. drop-set-lt 4096 table (3072 + i) (suc e) (omega arith)));
+        others = beside_stored table i (suc e);
         targets = target-now;
       }
 
@@ -120,9 +116,3 @@ module _ (sheet before after : List ℕ) (short : Shortened sheet before after) 
       go : TargetOf sheet before after k → entry_of target_part after k ≡ entry_of target_part before k
       go (own e) = e
       go (at_end e leads ends at) = absurd (true≢false (sym leads ∙ stays))
-
--- row 9
-pub left-by-row-9 : (sheet before after : List ℕ) (verdict : Option Fault) → verdict ≡ endless_by before sheet → Kept sheet before after → LeftBy verdict sheet before after
-unfolding endless_by
-left-by-row-9 sheet before after verdict v kept =
-    record { short = kept.short; untouched = λ f e h. absurd (omega (arith, h, endless-number _ _ _ f (sym v ∙ e))) }

@@ -2,23 +2,21 @@
 -- ends of all chains.
 use Prim.Native.Nat.{ℕ, ◌+◌}
 use native.Mathlib.Numerals.{add-one}
-use mathlib.Core.Path.{◌≡◌, refl, sym, ap, ◌∙◌}
+use mathlib.Core.Path.{◌≡◌, sym, ap, ◌∙◌}
 use Rattle.std.specs.Prelude as std
-use mathlib.Core.Bool.{Bool, false, ◌&&◌, true≢false}
-use mathlib.Core.List.{List, [], ◌∷◌}
+use mathlib.Core.Bool.{false, true≢false}
+use mathlib.Core.List.{List}
 use mathlib.Core.Option.{some}
 use Rattle.rules.specs.declared.span.Span.{Span}
-use Rattle.rules.specs.Record.{Rec, is_renaming}
 use Rattle.rules.specs.Context.{ValidationContext, behind, chain_end, never_ends}
-use Rattle.rules.specs.Refusals.{leads_nowhere}
 use Rattle.rules.proofs.Chains.{is_some, none-there}
-use Rattle.names.specs.View.{view_at, view_of, declarations_of, context_by}
+use Rattle.names.specs.View.{view_at, declarations_of, context_by}
 use Rattle.names.specs.Known.{at_place}
-use Rattle.names.specs.SameEnds.{leads_on, SameEnds, Lasting, with_target}
+use Rattle.names.specs.SameEnds.{SameEnds, Lasting, with_target}
 use Rattle.names.proofs.Shortened.{same-itself, same-through}
 use Rattle.names.proofs.Targeted.{target-same, target-lasting, rest_end}
-use Rattle.refusals.specs.Ends.{EndsAt, Kept}
-use Rattle.refusals.proofs.ShortTables.{shortened-itself, shortened-now, shortened-through}
+use Rattle.names.specs.Ends.{EndsAt, Kept}
+use Rattle.names.proofs.ShortTables.{shortened-itself, shortened-now, shortened-through}
 
 module _ (table sheet : List ℕ) where
   abbrev ctx : ValidationContext ℕ Span
@@ -67,17 +65,6 @@ module _ (sheet before table : List ℕ) (at end next : ℕ) (kept : Kept sheet 
             ∙ rw add-one (rest_end table sheet at end (ap is_some step) ends.end ends.over (view_at sheet next) step);
         over = none-there _ (sym (same-now.leads (view_at sheet end)) ∙ ap is_some ends.over);
       })
-
--- by a table that was kept, the same chains never end
-same-nowhere : (a b : ValidationContext ℕ Span) (rs : List (Rec ℕ Span)) → SameEnds a b → leads_nowhere b rs ≡ leads_nowhere a rs
-same-nowhere a b [] same = refl
-same-nowhere a b (t ∷ rs) same = sym (ap (leads_on a) (same.ends t) ∙ same.leads _)
-
-pub kept_nowhere : (sheet before table : List ℕ) (i n : ℕ) (b : Bool) → Kept sheet before table
-    → b ≡ (is_renaming (view_at sheet i) && leads_nowhere (context_by table sheet) (view_of sheet (i + 1) n))
-    → b ≡ (is_renaming (view_at sheet i) && leads_nowhere (context_by before sheet) (view_of sheet (i + 1) n))
-kept_nowhere sheet before table i n b kept e =
-    e ∙ ap (λ x. is_renaming (view_at sheet i) && x) (same-nowhere _ _ (view_of sheet (i + 1) n) kept.same)
 
 -- one more chain
 pub kept_through : (sheet a b c : List ℕ) → Kept sheet a b → Kept sheet b c → Kept sheet a c

@@ -1,8 +1,8 @@
--- The ends of chains of named newtypes, as row 9 finds them, and what it leaves of the table that it finds them by.
-use Rattle.std.specs.Prelude.{ℕ, suc, ◌*◌, ◌≤◌, ◌≡◌, true, List, ◌++◌, length, take, drop}
-use Rattle.std.proofs.Math.Option.{Option, some, none}
+-- The ends of chains of named newtypes, and a table that leads to them at once.
+use Rattle.std.specs.Prelude.{ℕ, suc, ◌*◌, ◌≡◌, true, List, ◌++◌, length, take, drop}
+use Rattle.std.proofs.Math.Option.{none}
 use Rattle.rules.specs.Context.{behind, chain_end}
-use Rattle.rules.specs.Refusals.{max_records, Fault}
+use Rattle.rules.specs.Refusals.{max_records}
 use Rattle.names.specs.View.{view_at, entry_of, target_part, code_part, declarations_of, context_by}
 use Rattle.names.specs.SameEnds.{leads_on, SameEnds, Lasting}
 
@@ -33,8 +33,3 @@ pub record Kept (sheet before after : List ℕ) : Type 0 where
   pub short : Shortened sheet before after
   pub same : SameEnds (context_by before sheet) (context_by after sheet)
   pub lasts : Lasting (context_by after sheet)
-
--- what a verdict leaves of the table: where rows 1 to 8 refuse, the table itself
-pub record LeftBy (verdict : Option Fault) (sheet before after : List ℕ) : Type 0 where
-  pub short : Shortened sheet before after
-  pub untouched : (f : Fault) → verdict ≡ some f → f.number ≤ 8 → after ≡ before
