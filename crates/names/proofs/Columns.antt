@@ -7,6 +7,7 @@ use native.Mathlib.Omega.{arith}
 use lib.ListN.{length, get_or, take, replicate, length-take, length-append, length-replicate, get_or-append}
 use lib.Seq.{get_or-take}
 use Rattle.rules.specs.Words.{number_if}
+use Rattle.rules.specs.Refusals.{max_records}
 use Rattle.names.specs.NameTable.{numbered, column, is_named, id_in, declaration_in, import_in, target_in, code_of}
 use Rattle.names.specs.Parts.{known, ids, declarations, imported, targets, codes}
 
@@ -57,38 +58,38 @@ unfolding padded
 padded-behind n l k h = zero-in-front n (l ++ replicate n 0) k (zeros-behind l n k h)
 
 module _ {A : Type 0} (f : ℕ → A → ℕ) (xs : List A) where
-  pub length-column : length (column f xs) ≡ 1024
+  pub length-column : length (column f xs) ≡ max_records
   unfolding column padded
-  length-column = length-padded 1024 (numbered f 0 xs)
+  length-column = length-padded max_records (numbered f 0 xs)
 
-  pub column-at : (k : ℕ) (d : A) → k < 1024 → k < length xs → get_or (column f xs) k 0 ≡ f k (get_or xs k d)
+  pub column-at : (k : ℕ) (d : A) → k < max_records → k < length xs → get_or (column f xs) k 0 ≡ f k (get_or xs k d)
   unfolding column padded
   column-at k d h g =
-      padded-at 1024 (numbered f 0 xs) k h (rw length-numbered g)
+      padded-at max_records (numbered f 0 xs) k h (rw length-numbered g)
       ∙ numbered-at f 0 k xs d g ∙ rw zero-add
 
   pub column-past : (k : ℕ) → length xs ≤ k → get_or (column f xs) k 0 ≡ 0
   unfolding column padded
-  column-past k h = padded-behind 1024 (numbered f 0 xs) k (rw length-numbered h)
+  column-past k h = padded-behind max_records (numbered f 0 xs) k (rw length-numbered h)
 
 -- so has each part of a sheet's table
 module _ (sheet names : List ℕ) where
-  pub length_ids : length (ids sheet names) ≡ 1024
+  pub length_ids : length (ids sheet names) ≡ max_records
   unfolding ids
   length_ids = length-column (id_in (known sheet names)) (known sheet names)
 
-  pub length-declarations : length (declarations sheet names) ≡ 1024
+  pub length-declarations : length (declarations sheet names) ≡ max_records
   unfolding declarations
   length-declarations = length-column (λ i r. declaration_in (known sheet names) r) (known sheet names)
 
-  pub length-imported : length (imported sheet names) ≡ 1024
+  pub length-imported : length (imported sheet names) ≡ max_records
   unfolding imported
   length-imported = length-column (λ i r. import_in (known sheet names) r) (known sheet names)
 
-  pub length-targets : length (targets sheet names) ≡ 1024
+  pub length-targets : length (targets sheet names) ≡ max_records
   unfolding targets
   length-targets = length-column (λ i r. target_in (known sheet names) r) (known sheet names)
 
-  pub length-codes : length (codes sheet names) ≡ 1024
+  pub length-codes : length (codes sheet names) ≡ max_records
   unfolding codes
   length-codes = length-column (λ i r. number_if (is_named r) (code_of r.kind r.name)) (known sheet names)

@@ -4,12 +4,13 @@ use mathlib.Core.Path.{◌≡◌}
 use mathlib.Core.List.{List}
 use lib.ListN.{get_or}
 use borrow.Author.Tests.{lt-ltb, le-ltb}
+use Rattle.rules.specs.Refusals.{max_records}
 use Rattle.names.specs.View.{entry_of}
 
-pub entry_in : (part i : ℕ) (table : List ℕ) → i < 1024 → get_or table (part * 1024 + i) 0 ≡ entry_of part table i
+pub entry_in : (part i : ℕ) (table : List ℕ) → i < max_records → get_or table (part * max_records + i) 0 ≡ entry_of part table i
 unfolding entry_of
-entry_in part i table h = rw (lt-ltb i 1024 h)
+entry_in part i table h = rw (lt-ltb i max_records h)
 
-pub entry-out : (part i : ℕ) (table : List ℕ) → 1024 ≤ i → 0 ≡ entry_of part table i
+pub entry-out : (part i : ℕ) (table : List ℕ) → max_records ≤ i → 0 ≡ entry_of part table i
 unfolding entry_of
-entry-out part i table h = rw (le-ltb i 1024 h)
+entry-out part i table h = rw (le-ltb i max_records h)

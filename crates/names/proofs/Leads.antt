@@ -11,6 +11,7 @@ use lib.Seq.{get_or-set_same, get_or-set_other}
 use Rattle.rules.specs.declared.span.Span.{Span}
 use Rattle.rules.specs.Words.{same_bytes}
 use Rattle.rules.specs.Record.{Rec, decode, record_bytes, name_in}
+use Rattle.rules.specs.Refusals.{max_records}
 use Rattle.names.specs.NameTable.{is_named, is_keyed, same_name}
 use Rattle.names.specs.Parts.{known_count, record_of}
 use Rattle.names.specs.Buckets.{bucket_of, Lead, LastLead, Chained}
@@ -65,7 +66,7 @@ module _ (sheet names : List ℕ) where
 
   -- and the numbers that bound it
   abbrev pub Walk : ℕ → ℕ → Type 0
-  Walk i place = (i < 1024) × (place ≤ i) × Sought i place
+  Walk i place = (i < max_records) × (place ≤ i) × Sought i place
 
   pub walk_start :
       (heads links : List ℕ) (i b place : ℕ) → i < known_count sheet → b ≡ bucket_at i → Chained sheet names heads links i → place ≡ get_or heads b 0 → Walk i place
@@ -130,7 +131,7 @@ module _ (sheet names : List ℕ) where
 
     -- a first record stands at the head of its bucket's chain, before what stood there
     pub chained_more :
-        (b : ℕ) → b < 1024 → i < 1024 → Lead sheet names b i →
+        (b : ℕ) → b < max_records → i < max_records → Lead sheet names b i →
         Chained sheet names (set heads b (i + 1)) (set links i (get_or heads b 0)) (i + 1)
     chained_more b hb hi lead =
         record {
@@ -166,12 +167,12 @@ module _ (sheet names : List ℕ) where
             rw (get_or-set_other links i k (get_or heads b 0) 0 (λ e. differ (sym e))) (chained.link c k (omega arith) l)
 
   -- at the start every chain is empty
-  pub chained_none : Chained sheet names (replicate 1024 0) (replicate 1024 0) 0
+  pub chained_none : Chained sheet names (replicate max_records 0) (replicate max_records 0) 0
   chained_none =
       record {
-        heads-size = length-replicate {A = ℕ} 1024 0;
-        links-size = length-replicate {A = ℕ} 1024 0;
-        head = λ b. rw (zeros-at 1024 b) (record {
+        heads-size = length-replicate {A = ℕ} max_records 0;
+        links-size = length-replicate {A = ℕ} max_records 0;
+        head = λ b. rw (zeros-at max_records b) (record {
           within = omega arith;
           leads = λ k e. absurd (omega arith);
           last = λ j h l. absurd (omega arith);
@@ -228,7 +229,7 @@ module _ (sheet names : List ℕ) where
     added_old found hf l = chained-kept heads links i chained (λ b lead. let same = hf ∙ lead.first in omega arith)
 
     pub added_new :
-        (b : ℕ) → is_keyed (at i) ≡ true → b ≡ bucket_at i → b < 1024 → id i ≡ i →
+        (b : ℕ) → is_keyed (at i) ≡ true → b ≡ bucket_at i → b < max_records → id i ≡ i →
         Chained sheet names (set heads b (i + 1)) (set links i (get_or heads b 0)) (i + 1)
     added_new b named eb hb new =
         let few = known-few sheet in

@@ -17,6 +17,7 @@ use Rattle.rules.specs.Kind
 use Rattle.rules.specs.Words.{number_if, any_of}
 use Rattle.rules.specs.Record.{Rec, decode, is, kind_in, record_bytes}
 use Rattle.rules.specs.Asked.{is_compared}
+use Rattle.rules.specs.Refusals.{max_records}
 use Rattle.names.specs.NameTable.{place_of, is_named, is_keyed, id_in}
 use Rattle.names.specs.Notes.{has_id, set_first, declaration_note, import_note, Read}
 use Rattle.names.specs.Parts.{known, known_count, record_of}
@@ -25,6 +26,7 @@ use Rattle.names.proofs.Known.{length-known, known_at, known_bounds}
 use Rattle.names.proofs.Numbers.{kind-tested}
 use Rattle.names.proofs.SameIds.{has-id}
 use Rattle.names.proofs.Stored.{part_same, part-set, part-ahead, part-behind}
+use Rattle.names.specs.View.{declarations_from, imports_from}
 
 -- a first place, where one more may be the first
 abbrev or_else : ℕ → ℕ → ℕ
@@ -116,33 +118,33 @@ module _ (sheet names : List ℕ) (m : ℕ) (h : m < known_count sheet) where
           codes-part = before.codes-part;
         }
 
-    module _ (id : ℕ) (small : id < 1024) (named : is_keyed r ≡ true) (e : id ≡ id_in rs m r) where
+    module _ (id : ℕ) (small : id < max_records) (named : is_keyed r ≡ true) (e : id ≡ id_in rs m r) where
       pub noted-declaration :
-          is Kind.Declaration r ≡ true → is Kind.ImportedName r ≡ false → (t' : List ℕ) → t' ≡ set_first t (1024 + id) (m + 1) →
+          is Kind.Declaration r ≡ true → is Kind.ImportedName r ≡ false → (t' : List ℕ) → t' ≡ set_first t (declarations_from + id) (m + 1) →
           Read sheet names t' a (m + 1)
       unfolding set_first
-      noted-declaration d i t' stored = rw stored (go (get_or t (1024 + id) 0) refl)
+      noted-declaration d i t' stored = rw stored (go (get_or t (declarations_from + id) 0) refl)
         where
-          more : (n : ℕ) → get_or t (1024 + id) 0 ≡ n → declaration_note sheet names (m + 1) id ≡ or_else n (suc m)
+          more : (n : ℕ) → get_or t (declarations_from + id) 0 ≡ n → declaration_note sheet names (m + 1) id ≡ or_else n (suc m)
           more n g =
               declaration-more id
               ∙ rw (says Kind.Declaration id d named e, ← before.declaration-notes.at id small, g)
 
-          same : (n : ℕ) → get_or t (1024 + id) 0 ≡ suc n → (k : ℕ) → Dec (id ≡ k) → declaration_note sheet names m k ≡ declaration_note sheet names (m + 1) k
+          same : (n : ℕ) → get_or t (declarations_from + id) 0 ≡ suc n → (k : ℕ) → Dec (id ≡ k) → declaration_note sheet names m k ≡ declaration_note sheet names (m + 1) k
           same n g k (no differ) = declaration-kept k (other-silent Kind.Declaration k id e differ)
           same n g k (yes here) = rw (← here) (sym (before.declaration-notes.at id small) ∙ g ∙ sym (more (suc n) g))
 
-          go : (n : ℕ) → get_or t (1024 + id) 0 ≡ n → Read sheet names (elim n [ zero ↦ set t (1024 + id) (m + 1) | suc l ↦ t ]) a (m + 1)
+          go : (n : ℕ) → get_or t (declarations_from + id) 0 ≡ n → Read sheet names (elim n [ zero ↦ set t (declarations_from + id) (m + 1) | suc l ↦ t ]) a (m + 1)
           go zero g =
               record {
-                size = length-set t (1024 + id) (m + 1) ∙ before.size;
-                ids-part = part-behind before.ids-part (1024 + id) (m + 1) (omega arith);
+                size = length-set t (declarations_from + id) (m + 1) ∙ before.size;
+                ids-part = part-behind before.ids-part (declarations_from + id) (m + 1) (omega arith);
                 declaration-notes = part-set before.declaration-notes id (m + 1) (omega (arith, before.size))
                     (λ k l differ. declaration-kept k (other-silent Kind.Declaration k id e differ)) (add-one m ∙ sym (more zero g));
-                import-notes = part_same (part-ahead before.import-notes (1024 + id) (m + 1) (omega arith))
+                import-notes = part_same (part-ahead before.import-notes (declarations_from + id) (m + 1) (omega arith))
                     (λ k l. import-kept k (kind-silent Kind.ImportedName i k));
-                targets-part = part-ahead before.targets-part (1024 + id) (m + 1) (omega arith);
-                codes-part = part-ahead before.codes-part (1024 + id) (m + 1) (omega arith);
+                targets-part = part-ahead before.targets-part (declarations_from + id) (m + 1) (omega arith);
+                codes-part = part-ahead before.codes-part (declarations_from + id) (m + 1) (omega arith);
               }
           go (suc n) g =
               record {
@@ -154,18 +156,18 @@ module _ (sheet names : List ℕ) (m : ℕ) (h : m < known_count sheet) where
                 codes-part = before.codes-part;
               }
 
-      pub noted-import : is Kind.ImportedName r ≡ true → is Kind.Declaration r ≡ false → Read sheet names (set t (2048 + id) 1) a (m + 1)
+      pub noted-import : is Kind.ImportedName r ≡ true → is Kind.Declaration r ≡ false → Read sheet names (set t (imports_from + id) 1) a (m + 1)
       noted-import i d =
           record {
-            size = length-set t (2048 + id) 1 ∙ before.size;
-            ids-part = part-behind before.ids-part (2048 + id) 1 (omega arith);
-            declaration-notes = part_same (part-behind before.declaration-notes (2048 + id) 1 (omega arith))
+            size = length-set t (imports_from + id) 1 ∙ before.size;
+            ids-part = part-behind before.ids-part (imports_from + id) 1 (omega arith);
+            declaration-notes = part_same (part-behind before.declaration-notes (imports_from + id) 1 (omega arith))
                 (λ k l. declaration-kept k (kind-silent Kind.Declaration d k));
             import-notes = part-set before.import-notes id 1 (omega (arith, before.size))
                 (λ k l differ. import-kept k (other-silent Kind.ImportedName k id e differ))
                 (sym (import-more id ∙ rw (says Kind.ImportedName id i named e)));
-            targets-part = part-ahead before.targets-part (2048 + id) 1 (omega arith);
-            codes-part = part-ahead before.codes-part (2048 + id) 1 (omega arith);
+            targets-part = part-ahead before.targets-part (imports_from + id) 1 (omega arith);
+            codes-part = part-ahead before.codes-part (imports_from + id) 1 (omega arith);
           }
 
   -- what the record's kind says
@@ -183,18 +185,18 @@ module _ (sheet names : List ℕ) (m : ℕ) (h : m < known_count sheet) where
   says_nothing t before d i =
       noted-none t (m + 1) before (kind-silent Kind.Declaration (kind-is-not Kind.Declaration d)) (kind-silent Kind.ImportedName (kind-is-not Kind.ImportedName i))
 
-  module _ (named : is_named r ≡ true) (t : List ℕ) (before : Read sheet names t (m + 1) m) (id : ℕ) (small : id < 1024) (e : id ≡ id_in rs m r) where
+  module _ (named : is_named r ≡ true) (t : List ℕ) (before : Read sheet names t (m + 1) m) (id : ℕ) (small : id < max_records) (e : id ≡ id_in rs m r) where
     kind-keyed : (k : ℕ) → is_compared k ≡ true → kind_in (record_bytes sheet m) ≡ k → is_keyed r ≡ true
     kind-keyed k compared f =
         kind-tested sheet names m named (kind_in (record_bytes sheet m)) refl is_compared true (sym (ap is_compared f ∙ compared))
 
-    pub says_declaration : kind_in (record_bytes sheet m) ≡ Kind.Declaration → (t' : List ℕ) → t' ≡ set_first t (1024 + id) (m + 1) → Read sheet names t' (m + 1) (m + 1)
+    pub says_declaration : kind_in (record_bytes sheet m) ≡ Kind.Declaration → (t' : List ℕ) → t' ≡ set_first t (declarations_from + id) (m + 1) → Read sheet names t' (m + 1) (m + 1)
     unfolding any_of
     says_declaration f =
         noted-declaration t (m + 1) before id small (kind-keyed Kind.Declaration refl f) e (kind-is Kind.Declaration f)
         (kind-is-not Kind.ImportedName (λ other. omega arith))
 
-    pub says_import : kind_in (record_bytes sheet m) ≡ Kind.ImportedName → Read sheet names (set t (2048 + id) 1) (m + 1) (m + 1)
+    pub says_import : kind_in (record_bytes sheet m) ≡ Kind.ImportedName → Read sheet names (set t (imports_from + id) 1) (m + 1) (m + 1)
     unfolding any_of
     says_import f =
         noted-import t (m + 1) before id small (kind-keyed Kind.ImportedName refl f) e (kind-is Kind.ImportedName f)

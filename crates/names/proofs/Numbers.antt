@@ -12,6 +12,7 @@ use Rattle.rules.specs.declared.span.Span.{Span}
 use Rattle.rules.specs.Kind
 use Rattle.rules.specs.Words.{same_bytes}
 use Rattle.rules.specs.Record.{Rec, decode, record_bytes, kind_in, is_named_in, fits_in, name_fits, name_in, name_offset, name_length}
+use Rattle.rules.specs.Refusals.{max_records}
 use Rattle.names.specs.NameTable.{column, is_named, is_keyed, same_name}
 use Rattle.names.specs.Parts.{known, known_count, record_of}
 use Rattle.names.proofs.Known.{length-known, known_at, known_bounds}
@@ -58,7 +59,7 @@ module _ (sheet names : List ℕ) (i j : ℕ) (first : is_keyed (record_of sheet
 
 -- a part's number, worked out from the record where there is one
 module _ (sheet names : List ℕ) (i n : ℕ) (hn : n ≡ known_count sheet) (f : ℕ → Rec (List ℕ) Span → ℕ) where
-  pub part_at : (v : ℕ) → n ≤ 1024 → i < n → v ≡ f i (record_of sheet names i) → v ≡ get_or (column f (known sheet names)) i 0
+  pub part_at : (v : ℕ) → n ≤ max_records → i < n → v ≡ f i (record_of sheet names i) → v ≡ get_or (column f (known sheet names)) i 0
   part_at v l h e =
       let d : Rec (List ℕ) Span = record_of sheet names i in
       rw (column-at f (known sheet names) i d (omega arith) (rw (length-known sheet names, ← hn) h), known_at sheet names i d (rw (← hn) h)) e

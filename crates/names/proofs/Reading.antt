@@ -8,6 +8,7 @@ use lib.ListN.{length, get_or, take, set, replicate, length-set, length-replicat
 use Rattle.rules.specs.Kind
 use Rattle.rules.specs.Words.{number_if, any_of}
 use Rattle.rules.specs.Record.{decode, record_bytes, kind_in, name_in}
+use Rattle.rules.specs.Refusals.{max_records}
 use Rattle.names.specs.NameTable.{place_of, is_named, is_keyed, id_in, code_of}
 use Rattle.names.specs.Notes.{declaration_note, import_note, Part, Read}
 use Rattle.names.specs.Parts.{known, known_count, record_of, ids, codes}
@@ -17,22 +18,23 @@ use Rattle.names.proofs.Known.{known-few}
 use Rattle.names.proofs.Noting.{unnamed-silent, noted-none}
 use Rattle.names.proofs.Numbers.{part_at, unnamed-keyed}
 use Rattle.names.proofs.Stored.{part_same, part-set, part-ahead, part-behind, taken_here, taken_next, taken-zero}
+use Rattle.names.specs.View.{declarations_from, imports_from, targets_from, codes_from, table_size}
 
 -- before the first record the table has zeros
-module _ (sheet names t : List ℕ) (e : t ≡ replicate 5122 0) where
+module _ (sheet names t : List ℕ) (e : t ≡ replicate table_size 0) where
   zero-part : (p : ℕ) (f : ℕ → ℕ) → ((k : ℕ) → f k ≡ 0) → Part p f t
-  zero-part p f none = record { at = λ k h. ap (λ (l : List ℕ). get_or l (p + k) 0) e ∙ zeros-at 5122 (p + k) ∙ sym (none k) }
+  zero-part p f none = record { at = λ k h. ap (λ (l : List ℕ). get_or l (p + k) 0) e ∙ zeros-at table_size (p + k) ∙ sym (none k) }
 
   pub read_none : Read sheet names t 0 0
   unfolding declaration_note import_note place_of any_of
   read_none =
       record {
-        size = ap length e ∙ length-replicate {A = ℕ} 5122 0;
+        size = ap length e ∙ length-replicate {A = ℕ} table_size 0;
         ids-part = zero-part 0 _ (λ k. refl);
-        declaration-notes = zero-part 1024 _ (λ k. refl);
-        import-notes = zero-part 2048 _ (λ k. refl);
-        targets-part = zero-part 3072 _ (λ k. refl);
-        codes-part = zero-part 4096 _ (λ k. refl);
+        declaration-notes = zero-part declarations_from _ (λ k. refl);
+        import-notes = zero-part imports_from _ (λ k. refl);
+        targets-part = zero-part targets_from _ (λ k. refl);
+        codes-part = zero-part codes_from _ (λ k. refl);
       }
 
 module _ (sheet names : List ℕ) (i : ℕ) (h : i < known_count sheet) where
@@ -46,7 +48,7 @@ module _ (sheet names : List ℕ) (i : ℕ) (h : i < known_count sheet) where
       part_at sheet names i (known_count sheet) refl (λ i r. number_if (is_named r) (code_of r.kind r.name)) v (known-few sheet) h e
 
   module _ (t : List ℕ) (before : Read sheet names t i i) where
-    small : i < 1024
+    small : i < max_records
     small = let few = known-few sheet in omega arith
 
     -- the table with the id
@@ -80,20 +82,20 @@ module _ (sheet names : List ℕ) (i : ℕ) (h : i < known_count sheet) where
     pub read_named :
         is_named (record_of sheet names i) ≡ true → (v id c : ℕ) → v ≡ id → id ≡ id_in (known sheet names) i (record_of sheet names i) →
         (kind : ℕ) → kind ≡ kind_in (record_bytes sheet i) → (name : List ℕ) → name ≡ name_in names (record_bytes sheet i) → c ≡ code_of kind name →
-        Read sheet names (set (set t (0 + i) v) (4096 + i) c) (i + 1) i
+        Read sheet names (set (set t (0 + i) v) (codes_from + i) c) (i + 1) i
     unfolding record_of decode
     read_named named v id c e f kind ek name en ec =
         let few = small in
         let coded : c ≡ number_if (is_named (record_of sheet names i)) (code_of (record_of sheet names i).kind (record_of sheet names i).name) =
         rw named (ec ∙ ap₂ code_of ek en) in
         let t' : List ℕ = set t (0 + i) v in
-        let size' : length t' ≡ 5122 = length-set t (0 + i) v ∙ before.size in
+        let size' : length t' ≡ table_size = length-set t (0 + i) v ∙ before.size in
         record {
-          size = length-set t' (4096 + i) c ∙ size';
-          ids-part = part-behind (id-stored v (e ∙ f)) (4096 + i) c (omega arith);
-          declaration-notes = part-behind (part-ahead before.declaration-notes (0 + i) v (omega arith)) (4096 + i) c (omega arith);
-          import-notes = part-behind (part-ahead before.import-notes (0 + i) v (omega arith)) (4096 + i) c (omega arith);
-          targets-part = part-behind (part-ahead before.targets-part (0 + i) v (omega arith)) (4096 + i) c (omega arith);
+          size = length-set t' (codes_from + i) c ∙ size';
+          ids-part = part-behind (id-stored v (e ∙ f)) (codes_from + i) c (omega arith);
+          declaration-notes = part-behind (part-ahead before.declaration-notes (0 + i) v (omega arith)) (codes_from + i) c (omega arith);
+          import-notes = part-behind (part-ahead before.import-notes (0 + i) v (omega arith)) (codes_from + i) c (omega arith);
+          targets-part = part-behind (part-ahead before.targets-part (0 + i) v (omega arith)) (codes_from + i) c (omega arith);
           codes-part = part-set (part-ahead before.codes-part (0 + i) v (omega arith)) i c (omega arith)
               (λ k l differ. taken_next (codes sheet names) i k differ) (code-number c coded ∙ sym (taken_here (codes sheet names) i));
         }

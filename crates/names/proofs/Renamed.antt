@@ -21,7 +21,7 @@ use Rattle.rules.specs.Sub
 use Rattle.rules.specs.Record.{Rec, is, record_size, record_bytes, kind_in, is_named_in, fits_in, name_in, sub_in, decode, pieces, records}
 use Rattle.rules.specs.Asked.{is_compared, is_worded, is_spelled}
 use Rattle.rules.specs.Context.{valid_field_name, Declared, ValidationContext, context_of, declared, inner_of, behind}
-use Rattle.rules.specs.Refusals.{endless_chain}
+use Rattle.rules.specs.Refusals.{endless_chain, max_records}
 use Rattle.rules.specs.Bodies.{violations_of}
 use Rattle.rules.specs.Answer.{is_accepted, found_in}
 use Rattle.rules.proofs.Every.{Every, every-nil, every-cons, every-at}
@@ -134,12 +134,12 @@ module _ (sheet names : List ℕ) (room : length sheet ≤ 32768) (whole : lengt
   nobody = decode names []
 
   -- the table has room for every record
-  short : length rs ≤ 1024
+  short : length rs ≤ max_records
   short = rw length-records (omega arith)
 
   table-whole : name_table sheet names ≡ table_of rs
   unfolding name_table
-  table-whole = ap table_of (take_all 1024 rs short)
+  table-whole = ap table_of (take_all max_records rs short)
 
   -- what the table says of a record with a name that is asked for
   module _ (test : ℕ → Bool) (i : ℕ) (has : HasName test sheet i) where

@@ -10,7 +10,8 @@ use lib.ListN.{length, get_or, take, drop, set, length-take}
 use lib.Seq.{set_out, take-append_seam, drop-append_seam}
 use Rattle.std.proofs.lemmas.List.{length-set, take-set-le, drop-set-lt, get_or-take, get_or-drop}
 use Rattle.rules.proofs.Chains.{is_some, none-there}
-use Rattle.names.specs.View.{view_at, entry_of, target_part, context_by}
+use Rattle.rules.specs.Refusals.{max_records}
+use Rattle.names.specs.View.{view_at, entry_of, target_part, context_by, targets_from, codes_from}
 use Rattle.names.specs.SameEnds.{leads_on, SameEnds, with_target}
 use Rattle.names.proofs.Entries.{entry_in, entry-out}
 use Rattle.names.proofs.Targeted.{target-in, target-out, other-entry, own-entry}
@@ -22,11 +23,11 @@ shortened-itself sheet table = record { size = refl; others = refl; targets = λ
 
 -- what a store among the targets leaves as it was
 stored :
-    {A : Type 0} (f : List ℕ → A) (table : List ℕ) (i place : ℕ) → (i < 1024 → f (set table (3072 + i) place) ≡ f table) →
+    {A : Type 0} (f : List ℕ → A) (table : List ℕ) (i place : ℕ) → (i < max_records → f (set table (targets_from + i) place) ≡ f table) →
     f (with_target table i place) ≡ f table
-stored f table i place h = go (dec_lt i 1024)
+stored f table i place h = go (dec_lt i max_records)
   where
-    go : Dec (i < 1024) → f (with_target table i place) ≡ f table
+    go : Dec (i < max_records) → f (with_target table i place) ≡ f table
     go (yes l) = ap f (sym (target-in table i place l)) ∙ h l
     go (no l) = ap f (sym (target-out table i place (omega arith)))
 
@@ -34,27 +35,27 @@ pub beside_stored : (table : List ℕ) (i place : ℕ) → beside_targets (with_
 unfolding beside_targets
 beside_stored table i place =
     ap₂ ◌++◌
-    (stored (take 3072) table i place (λ h. take-set-le 3072 table (3072 + i) place (omega arith)))
-    (stored (drop 4096) table i place (λ h. drop-set-lt 4096 table (3072 + i) place (omega arith)))
+    (stored (take targets_from) table i place (λ h. take-set-le targets_from table (targets_from + i) place (omega arith)))
+    (stored (drop codes_from) table i place (λ h. drop-set-lt codes_from table (targets_from + i) place (omega arith)))
 
 -- a table that leads to the end from a type that its chain leads on from
 module _ (sheet table : List ℕ) (i e : ℕ) (leads : leads_on (context_by table sheet) (view_at sheet i) ≡ true) (ends : EndsAt table sheet i e) where
   target-now : (k : ℕ) → TargetOf sheet table (with_target table i (suc e)) k
-  target-now k = go (ℕ_discrete k i) (dec_lt i 1024) (dec_lt (3072 + i) (length table))
+  target-now k = go (ℕ_discrete k i) (dec_lt i max_records) (dec_lt (targets_from + i) (length table))
     where
       same : with_target table i (suc e) ≡ table → TargetOf sheet table (with_target table i (suc e)) k
       same q = own (ap (λ t. entry_of target_part t k) q)
 
-      go : Dec (k ≡ i) → Dec (i < 1024) → Dec (3072 + i < length table) → TargetOf sheet table (with_target table i (suc e)) k
+      go : Dec (k ≡ i) → Dec (i < max_records) → Dec (targets_from + i < length table) → TargetOf sheet table (with_target table i (suc e)) k
       go (no n) x y = own (other-entry table i (suc e) target_part k (λ h q. n q))
       go (yes q) (no x) y = same (sym (target-out table i (suc e) (omega arith)))
-      go (yes q) (yes x) (no y) = same (sym (target-in table i (suc e) x) ∙ set_out table (3072 + i) (suc e) (omega arith))
+      go (yes q) (yes x) (no y) = same (sym (target-in table i (suc e) x) ∙ set_out table (targets_from + i) (suc e) (omega arith))
       go (yes q) (yes x) (yes y) = rw q (at_end e leads ends (own-entry table i (suc e) x y))
 
   pub shortened-now : Shortened sheet table (with_target table i (suc e))
   shortened-now =
       record {
-        size = stored length table i (suc e) (λ h. length-set table (3072 + i) (suc e));
+        size = stored length table i (suc e) (λ h. length-set table (targets_from + i) (suc e));
         others = beside_stored table i (suc e);
         targets = target-now;
       }
@@ -81,33 +82,33 @@ module _ (sheet a b : List ℕ) (same : SameEnds (context_by a sheet) (context_b
 
 -- what a shortened table keeps
 module _ (sheet before after : List ℕ) (short : Shortened sheet before after) where
-  seam : length (take 3072 after) ≡ length (take 3072 before)
-  seam = length-take 3072 after ∙ ap (min 3072) short.size ∙ sym (length-take 3072 before)
+  seam : length (take targets_from after) ≡ length (take targets_from before)
+  seam = length-take targets_from after ∙ ap (min targets_from) short.size ∙ sym (length-take targets_from before)
 
-  front : take 3072 after ≡ take 3072 before
+  front : take targets_from after ≡ take targets_from before
   unfolding beside_targets
-  front = sym (take-append_seam (take 3072 after) (drop 4096 after)) ∙ ap₂ take seam short.others ∙ take-append_seam (take 3072 before) (drop 4096 before)
+  front = sym (take-append_seam (take targets_from after) (drop codes_from after)) ∙ ap₂ take seam short.others ∙ take-append_seam (take targets_from before) (drop codes_from before)
 
-  back : drop 4096 after ≡ drop 4096 before
+  back : drop codes_from after ≡ drop codes_from before
   unfolding beside_targets
-  back = sym (drop-append_seam (take 3072 after) (drop 4096 after)) ∙ ap₂ drop seam short.others ∙ drop-append_seam (take 3072 before) (drop 4096 before)
+  back = sym (drop-append_seam (take targets_from after) (drop codes_from after)) ∙ ap₂ drop seam short.others ∙ drop-append_seam (take targets_from before) (drop codes_from before)
 
-  number-kept : (p : ℕ) → Dec (p < 3072) → (3072 ≤ p → 4096 ≤ p) → get_or after p 0 ≡ get_or before p 0
-  number-kept p (yes l) h = sym (get_or-take 3072 after p 0 l) ∙ ap (λ t. get_or t p 0) front ∙ get_or-take 3072 before p 0 l
+  number-kept : (p : ℕ) → Dec (p < targets_from) → (targets_from ≤ p → codes_from ≤ p) → get_or after p 0 ≡ get_or before p 0
+  number-kept p (yes l) h = sym (get_or-take targets_from after p 0 l) ∙ ap (λ t. get_or t p 0) front ∙ get_or-take targets_from before p 0 l
   number-kept p (no n) h =
-      let past : 4096 ≤ p = h (omega arith) in
-      let at : 4096 + (p - 4096) ≡ p = omega arith in
-      rw (← at) (sym (get_or-drop 4096 after (p - 4096) 0) ∙ ap (λ t. get_or t (p - 4096) 0) back ∙ get_or-drop 4096 before (p - 4096) 0)
+      let past : codes_from ≤ p = h (omega arith) in
+      let at : codes_from + (p - codes_from) ≡ p = omega arith in
+      rw (← at) (sym (get_or-drop codes_from after (p - codes_from) 0) ∙ ap (λ t. get_or t (p - codes_from) 0) back ∙ get_or-drop codes_from before (p - codes_from) 0)
 
   pub entry-kept : (part i : ℕ) → (part ≡ target_part → ⊥) → entry_of part after i ≡ entry_of part before i
-  entry-kept part i n = go (dec_lt i 1024)
+  entry-kept part i n = go (dec_lt i max_records)
     where
-      beside : i < 1024 → 3072 ≤ part * 1024 + i → 4096 ≤ part * 1024 + i
+      beside : i < max_records → targets_from ≤ part * max_records + i → codes_from ≤ part * max_records + i
       beside l h = let more : 3 < part = omega arith in omega arith
 
-      go : Dec (i < 1024) → entry_of part after i ≡ entry_of part before i
+      go : Dec (i < max_records) → entry_of part after i ≡ entry_of part before i
       go (yes l) =
-          sym (entry_in part i after l) ∙ number-kept (part * 1024 + i) (dec_lt (part * 1024 + i) 3072) (beside l) ∙ entry_in part i before l
+          sym (entry_in part i after l) ∙ number-kept (part * max_records + i) (dec_lt (part * max_records + i) targets_from) (beside l) ∙ entry_in part i before l
       go (no l) = sym (entry-out part i after (omega arith)) ∙ entry-out part i before (omega arith)
 
   pub target-kept : (k : ℕ) → leads_on (context_by before sheet) (view_at sheet k) ≡ false → entry_of target_part after k ≡ entry_of target_part before k

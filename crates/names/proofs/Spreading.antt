@@ -15,6 +15,7 @@ use Rattle.rules.specs.declared.span.Span.{Span}
 use Rattle.rules.specs.Kind
 use Rattle.rules.specs.Words.{number_if, any_of}
 use Rattle.rules.specs.Record.{Rec, is}
+use Rattle.rules.specs.Refusals.{max_records}
 use Rattle.names.specs.NameTable.{place_of, is_keyed, is_named, same_name, id_in, declaration_in, import_in, target_in, code_of}
 use Rattle.names.specs.Notes.{has_id, declaration_note, import_note, id_noted, Part, Silent, Read, Spread}
 use Rattle.names.specs.Parts.{known, known_count, record_of, target_of, ids, declarations, imported, targets, codes}
@@ -27,6 +28,7 @@ use Rattle.names.proofs.Numbers.{part_at}
 use Rattle.names.proofs.Reading.{id-number}
 use Rattle.names.proofs.SameIds.{id-says}
 use Rattle.names.proofs.Stored.{part_same, part-set, part-ahead, part-behind, part-whole, taken_here, taken_next, taken-zero, taken-all}
+use Rattle.names.specs.View.{declarations_from, imports_from, targets_from, codes_from, totals_from, table_size}
 
 module _ (sheet names : List ℕ) where
   abbrev rs : List (Rec (List ℕ) Span)
@@ -153,16 +155,16 @@ module _ (sheet names : List ℕ) where
 
   -- the turn of record i, whose id is read
   module _ (t : List ℕ) (i : ℕ) (h : i < count) (before : Spread sheet names t i) (own : ℕ) (e : own ≡ get_or t (0 + i) 0) where
-    few : i < 1024
+    few : i < max_records
     few = let most = known-few sheet in omega arith
 
     own-id : own ≡ id i
     own-id = e ∙ before.ids-part.at i few ∙ sym (id-number sheet names i h (id i) refl)
 
-    pub own-small : own < 1024
+    pub own-small : own < max_records
     own-small = let low = id-before i h in let same = own-id in let most = few in omega arith
 
-    module _ (place : ℕ) (ep : place ≡ get_or t (1024 + own) 0) (im : ℕ) (ei : im ≡ get_or t (2048 + own) 0) where
+    module _ (place : ℕ) (ep : place ≡ get_or t (declarations_from + own) 0) (im : ℕ) (ei : im ≡ get_or t (imports_from + own) 0) where
       place-noted : place ≡ declaration_note sheet names count (id i)
       place-noted =
           ep ∙ before.declaration-notes.at own own-small
@@ -181,11 +183,11 @@ module _ (sheet names : List ℕ) where
 
       -- the table with the two notes
       noted : List ℕ
-      noted = set (set t (1024 + i) place) (2048 + i) im
+      noted = set (set t (declarations_from + i) place) (imports_from + i) im
 
-      size-noted : length noted ≡ 5122
+      size-noted : length noted ≡ table_size
       unfolding noted
-      size-noted = length-set (set t (1024 + i) place) (2048 + i) im ∙ length-set t (1024 + i) place ∙ before.size
+      size-noted = length-set (set t (declarations_from + i) place) (imports_from + i) im ∙ length-set t (declarations_from + i) place ∙ before.size
 
       new-place : declaration_note sheet names count (id i) ≡ declaration_note sheet names count (id_noted sheet names (i + 1) i)
       new-place = ap (declaration_note sheet names count) (sym (noted-spread (i + 1) i (omega arith)))
@@ -195,39 +197,39 @@ module _ (sheet names : List ℕ) where
 
       ids-noted : Part 0 (λ k. get_or (ids sheet names) k 0) noted
       unfolding noted
-      ids-noted = part-behind (part-behind before.ids-part (1024 + i) place (omega arith)) (2048 + i) im (omega arith)
+      ids-noted = part-behind (part-behind before.ids-part (declarations_from + i) place (omega arith)) (imports_from + i) im (omega arith)
 
-      declarations-noted : Part 1024 (λ k. declaration_note sheet names count (id_noted sheet names (i + 1) k)) noted
+      declarations-noted : Part declarations_from (λ k. declaration_note sheet names count (id_noted sheet names (i + 1) k)) noted
       unfolding noted
       declarations-noted =
           let most = few in
           part-behind
           (part-set before.declaration-notes i place (omega (arith, before.size))
           (λ k l differ. ap (declaration_note sheet names count) (noted-next i k differ)) (place-noted ∙ new-place))
-          (2048 + i) im (omega arith)
+          (imports_from + i) im (omega arith)
 
-      imports-noted : Part 2048 (λ k. import_note sheet names count (id_noted sheet names (i + 1) k)) noted
+      imports-noted : Part imports_from (λ k. import_note sheet names count (id_noted sheet names (i + 1) k)) noted
       unfolding noted
       imports-noted =
           let most = few in
-          let size' = length-set t (1024 + i) place ∙ before.size in
-          part-set (part-ahead before.import-notes (1024 + i) place (omega arith)) i im (omega (arith, size'))
+          let size' = length-set t (declarations_from + i) place ∙ before.size in
+          part-set (part-ahead before.import-notes (declarations_from + i) place (omega arith)) i im (omega (arith, size'))
           (λ k l differ. ap (import_note sheet names count) (noted-next i k differ)) (import-read ∙ new-import)
 
-      targets-noted : Part 3072 (λ k. get_or (take i (targets sheet names)) k 0) noted
+      targets-noted : Part targets_from (λ k. get_or (take i (targets sheet names)) k 0) noted
       unfolding noted
       targets-noted =
           let most = few in
-          part-ahead (part-ahead before.targets-part (1024 + i) place (omega arith)) (2048 + i) im (omega arith)
+          part-ahead (part-ahead before.targets-part (declarations_from + i) place (omega arith)) (imports_from + i) im (omega arith)
 
-      codes-noted : Part 4096 (λ k. get_or (codes sheet names) k 0) noted
+      codes-noted : Part codes_from (λ k. get_or (codes sheet names) k 0) noted
       unfolding noted
       codes-noted =
           let most = few in
-          part-ahead (part-ahead before.codes-part (1024 + i) place (omega arith)) (2048 + i) im (omega arith)
+          part-ahead (part-ahead before.codes-part (declarations_from + i) place (omega arith)) (imports_from + i) im (omega arith)
 
       -- a name with no declaration has no target
-      pub spread-undeclared : place ≡ 0 → Spread sheet names (set (set t (1024 + i) place) (2048 + i) im) (i + 1)
+      pub spread-undeclared : place ≡ 0 → Spread sheet names (set (set t (declarations_from + i) place) (imports_from + i) im) (i + 1)
       unfolding noted
       spread-undeclared none =
           record {
@@ -241,28 +243,28 @@ module _ (sheet names : List ℕ) where
 
       pub spread-declared :
           (v p : ℕ) → p ≡ place → ((others : List ℕ) → v ≡ target_of (known sheet others) p) →
-          Spread sheet names (with_target (set (set t (1024 + i) place) (2048 + i) im) i v) (i + 1)
+          Spread sheet names (with_target (set (set t (declarations_from + i) place) (imports_from + i) im) i v) (i + 1)
       unfolding noted with_target
       spread-declared v p same target =
           let most = few in
-          rw (with_target, lt-ltb i 1024 most) (record {
-            size = length-set noted (3072 + i) v ∙ size-noted;
-            ids-part = part-behind ids-noted (3072 + i) v (omega arith);
-            declaration-notes = part-behind declarations-noted (3072 + i) v (omega arith);
-            import-notes = part-behind imports-noted (3072 + i) v (omega arith);
+          rw (with_target, lt-ltb i max_records most) (record {
+            size = length-set noted (targets_from + i) v ∙ size-noted;
+            ids-part = part-behind ids-noted (targets_from + i) v (omega arith);
+            declaration-notes = part-behind declarations-noted (targets_from + i) v (omega arith);
+            import-notes = part-behind imports-noted (targets_from + i) v (omega arith);
             targets-part = part-set targets-noted i v (omega (arith, size-noted)) (λ k l differ. taken_next (targets sheet names) i k differ)
                 (target-number v (target names ∙ ap (target_of rs) same) ∙ sym (taken_here (targets sheet names) i));
-            codes-part = part-ahead codes-noted (3072 + i) v (omega arith);
+            codes-part = part-ahead codes-noted (targets_from + i) v (omega arith);
           })
 
   -- where nothing is noted, there is nothing to spread
-  module _ (t : List ℕ) (silent : (k : ℕ) → k < count → (get_or t (1024 + k) 0 ≡ 0) × (get_or t (2048 + k) 0 ≡ 0)) where
+  module _ (t : List ℕ) (silent : (k : ℕ) → k < count → (get_or t (declarations_from + k) 0 ≡ 0) × (get_or t (imports_from + k) 0 ≡ 0)) where
     silent-next : (i : ℕ) → i < count → Spread sheet names t i → Spread sheet names t (i + 1)
     silent-next i h before =
         let low : get_or t (0 + i) 0 < count = omega (arith, own-id t i h before (get_or t (0 + i) 0) refl, id-before i h) in
-        let place : get_or t (1024 + get_or t (0 + i) 0) 0 ≡ get_or t (1024 + i) 0 = (silent (get_or t (0 + i) 0) low).0 ∙ sym (silent i h).0 in
-        let import : get_or t (2048 + get_or t (0 + i) 0) 0 ≡ get_or t (2048 + i) 0 = (silent (get_or t (0 + i) 0) low).1 ∙ sym (silent i h).1 in
-        rw (place, set-get_or t (1024 + i) 0, import, set-get_or t (2048 + i) 0)
+        let place : get_or t (declarations_from + get_or t (0 + i) 0) 0 ≡ get_or t (declarations_from + i) 0 = (silent (get_or t (0 + i) 0) low).0 ∙ sym (silent i h).0 in
+        let import : get_or t (imports_from + get_or t (0 + i) 0) 0 ≡ get_or t (imports_from + i) 0 = (silent (get_or t (0 + i) 0) low).1 ∙ sym (silent i h).1 in
+        rw (place, set-get_or t (declarations_from + i) 0, import, set-get_or t (imports_from + i) 0)
         at (spread-undeclared t i h before (get_or t (0 + i) 0) refl _ refl _ refl (silent (get_or t (0 + i) 0) low).0)
 
     silent-spread : (i : ℕ) → i ≤ count → Spread sheet names t 0 → Spread sheet names t i
@@ -271,7 +273,7 @@ module _ (sheet names : List ℕ) where
 
   -- after the last record every part has its numbers
   module _ (t : List ℕ) (before : Spread sheet names t count) where
-    declarations-part : Part 1024 (λ k. get_or (declarations sheet names) k 0) t
+    declarations-part : Part declarations_from (λ k. get_or (declarations sheet names) k 0) t
     unfolding declarations
     declarations-part = part_same before.declaration-notes (λ k l. go k (dec_lt k count))
       where
@@ -283,7 +285,7 @@ module _ (sheet names : List ℕ) where
             let past : count ≤ k = omega arith in
             ap (declaration_note sheet names count) (noted-left count k past) ∙ declaration-past k past ∙ sym (declarations-past k past)
 
-    imports-part : Part 2048 (λ k. get_or (imported sheet names) k 0) t
+    imports-part : Part imports_from (λ k. get_or (imported sheet names) k 0) t
     unfolding imported
     imports-part = part_same before.import-notes (λ k l. go k (dec_lt k count))
       where
@@ -295,32 +297,32 @@ module _ (sheet names : List ℕ) where
             let past : count ≤ k = omega arith in
             ap (import_note sheet names count) (noted-left count k past) ∙ import-past k past ∙ sym (imported-past k past)
 
-    targets-part : Part 3072 (λ k. get_or (targets sheet names) k 0) t
+    targets-part : Part targets_from (λ k. get_or (targets sheet names) k 0) t
     targets-part = part_same before.targets-part (λ k l. taken-all (targets sheet names) count k targets-past)
 
     all-spread :
-        take 5120 t ≡ ids sheet names ++ declarations sheet names ++ imported sheet names ++ targets sheet names ++ codes sheet names
+        take totals_from t ≡ ids sheet names ++ declarations sheet names ++ imported sheet names ++ targets sheet names ++ codes sheet names
     all-spread =
-        part-whole 4096 (codes sheet names) t (length-codes sheet names) (omega (arith, before.size)) before.codes-part
+        part-whole codes_from (codes sheet names) t (length-codes sheet names) (omega (arith, before.size)) before.codes-part
         ∙ ap (◌++ codes sheet names)
-        (part-whole 3072 (targets sheet names) t (length-targets sheet names) (omega (arith, before.size)) targets-part
+        (part-whole targets_from (targets sheet names) t (length-targets sheet names) (omega (arith, before.size)) targets-part
         ∙ ap (◌++ targets sheet names)
-        (part-whole 2048 (imported sheet names) t (length-imported sheet names) (omega (arith, before.size)) imports-part
+        (part-whole imports_from (imported sheet names) t (length-imported sheet names) (omega (arith, before.size)) imports-part
         ∙ ap (◌++ imported sheet names)
-        (part-whole 1024 (declarations sheet names) t (length-declarations sheet names) (omega (arith, before.size)) declarations-part
+        (part-whole declarations_from (declarations sheet names) t (length-declarations sheet names) (omega (arith, before.size)) declarations-part
         ∙ ap (◌++ declarations sheet names)
         (part-whole 0 (ids sheet names) t (length_ids sheet names) (omega (arith, before.size)) before.ids-part))))
 
 pub none-spread :
     (sheet names t : List ℕ) (n : ℕ) → n ≡ known_count sheet → Silent t n → Read sheet names t (known_count sheet) (known_count sheet) →
-    take 5120 t ≡ ids sheet names ++ declarations sheet names ++ imported sheet names ++ targets sheet names ++ codes sheet names
+    take totals_from t ≡ ids sheet names ++ declarations sheet names ++ imported sheet names ++ targets sheet names ++ codes sheet names
 unfolding Silent
 none-spread sheet names t n e silent read =
     all-spread sheet names t (silent-spread sheet names t (λ k l. silent k (rw e l)) (known_count sheet) (omega arith) (spread_none sheet names t read))
 
 pub spread-all :
     (sheet names t : List ℕ) (i n : ℕ) → n ≡ known_count sheet → i ≤ n → n ≤ i → Spread sheet names t i →
-    take 5120 t ≡ ids sheet names ++ declarations sheet names ++ imported sheet names ++ targets sheet names ++ codes sheet names
+    take totals_from t ≡ ids sheet names ++ declarations sheet names ++ imported sheet names ++ targets sheet names ++ codes sheet names
 spread-all sheet names t i n e a b before =
     let last : i ≡ known_count sheet = omega arith in
     all-spread sheet names t (rw last at before)

@@ -7,19 +7,20 @@ use mathlib.Core.Path.{◌≡◌, refl, ◌∙◌, sym, ap}
 use mathlib.Core.List.{List, [], ◌∷◌, ◌++◌}
 use lib.ListN.{length, get_or, take, drop, set, length-take, length-drop, get_or-eq_default}
 use lib.Seq.{get_or-take, get_or-drop, get_or-set_same, get_or-set_other, take-add, take-nil, ext_get_or}
+use Rattle.rules.specs.Refusals.{max_records}
 use Rattle.names.specs.Notes.{Part}
 
 module _ {p : ℕ} {f g : ℕ → ℕ} {t : List ℕ} (before : Part p f t) where
   -- a part whose numbers are called otherwise
-  pub part_same : ((k : ℕ) → k < 1024 → f k ≡ g k) → Part p g t
+  pub part_same : ((k : ℕ) → k < max_records → f k ≡ g k) → Part p g t
   part_same e = record { at = λ k h. before.at k h ∙ e k h }
 
   -- a store into the part
   pub part-set :
-      (j v : ℕ) → p + j < length t → ((k : ℕ) → k < 1024 → (j ≡ k → ⊥) → f k ≡ g k) → v ≡ g j → Part p g (set t (p + j) v)
+      (j v : ℕ) → p + j < length t → ((k : ℕ) → k < max_records → (j ≡ k → ⊥) → f k ≡ g k) → v ≡ g j → Part p g (set t (p + j) v)
   part-set j v room e here = record { at = λ k h. at k h (ℕ_discrete j k) }
     where
-      at : (k : ℕ) → k < 1024 → Dec (j ≡ k) → get_or (set t (p + j) v) (p + k) 0 ≡ g k
+      at : (k : ℕ) → k < max_records → Dec (j ≡ k) → get_or (set t (p + j) v) (p + k) 0 ≡ g k
       at k h (yes same) =
           ap (λ (n : ℕ). get_or (set t (p + j) v) (p + n) 0) (sym same) ∙ get_or-set_same t (p + j) v 0 room ∙ here ∙ ap g same
       at k h (no differ) =
@@ -27,7 +28,7 @@ module _ {p : ℕ} {f g : ℕ → ℕ} {t : List ℕ} (before : Part p f t) wher
 
 -- a store elsewhere
 module _ {p : ℕ} {f : ℕ → ℕ} {t : List ℕ} (before : Part p f t) where
-  pub part-behind : (q v : ℕ) → p + 1024 ≤ q → Part p f (set t q v)
+  pub part-behind : (q v : ℕ) → p + max_records ≤ q → Part p f (set t q v)
   part-behind q v h = record { at = λ k l. get_or-set_other t q (p + k) v 0 (λ same. omega arith) ∙ before.at k l }
 
   pub part-ahead : (q v : ℕ) → q < p → Part p f (set t q v)
@@ -67,16 +68,16 @@ taken-all (x ∷ l) (suc i) (suc k) e = taken-all l i k (λ j h. e (suc j) (omeg
 
 -- a part whose numbers are those of a list is the list
 pub part-whole :
-    (p : ℕ) (part t : List ℕ) → length part ≡ 1024 → p + 1024 ≤ length t → Part p (λ k. get_or part k 0) t → take (p + 1024) t ≡ take p t ++ part
-part-whole p part t l room has = take-add p 1024 t ∙ ap (take p t ++◌) (ext_get_or 0 (take 1024 (drop p t)) part same entries)
+    (p : ℕ) (part t : List ℕ) → length part ≡ max_records → p + max_records ≤ length t → Part p (λ k. get_or part k 0) t → take (p + max_records) t ≡ take p t ++ part
+part-whole p part t l room has = take-add p max_records t ∙ ap (take p t ++◌) (ext_get_or 0 (take max_records (drop p t)) part same entries)
   where
-    size : length (take 1024 (drop p t)) ≡ 1024
+    size : length (take max_records (drop p t)) ≡ max_records
     size = rw (length-take, length-drop) (omega arith)
 
-    same : length (take 1024 (drop p t)) ≡ length part
+    same : length (take max_records (drop p t)) ≡ length part
     same = size ∙ sym l
 
-    entries : (i : ℕ) → i < length (take 1024 (drop p t)) → get_or (take 1024 (drop p t)) i 0 ≡ get_or part i 0
+    entries : (i : ℕ) → i < length (take max_records (drop p t)) → get_or (take max_records (drop p t)) i 0 ≡ get_or part i 0
     entries i h =
-        let inside : i < 1024 = rw size at h in
-        get_or-take 1024 (drop p t) i 0 inside ∙ get_or-drop p t i 0 ∙ has.at i inside
+        let inside : i < max_records = rw size at h in
+        get_or-take max_records (drop p t) i 0 inside ∙ get_or-drop p t i 0 ∙ has.at i inside

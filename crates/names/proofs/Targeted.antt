@@ -16,45 +16,46 @@ use Rattle.rules.specs.Words.{within, number_if}
 use Rattle.rules.specs.Kind
 use Rattle.rules.specs.Record.{Rec, is, record_bytes, sub_in}
 use Rattle.rules.specs.Context.{Declared, ValidationContext, behind, chain_end}
+use Rattle.rules.specs.Refusals.{max_records}
 use Rattle.rules.proofs.Chains.{is_some, chain-fixed}
-use Rattle.names.specs.View.{view_at, entry_of, id_part, declaration_part, import_part, target_part, code_part, declarations_of, declared_by, context_by}
+use Rattle.names.specs.View.{view_at, entry_of, id_part, declaration_part, import_part, target_part, code_part, declarations_of, declared_by, context_by, targets_from, totals_from}
 use Rattle.names.specs.SameEnds.{sub_of, leads_on, SameEnds, Lasting, with_target}
 use Rattle.names.proofs.Shortened.{Next, kept, last, chain-step, short-ends, short-leads, short-lasting}
 
 -- the store
-pub target-in : (table : List ℕ) (i place : ℕ) → i < 1024 → set table (3072 + i) place ≡ with_target table i place
+pub target-in : (table : List ℕ) (i place : ℕ) → i < max_records → set table (targets_from + i) place ≡ with_target table i place
 unfolding with_target
-target-in table i place h = rw (lt-ltb i 1024 h, with_target) refl
+target-in table i place h = rw (lt-ltb i max_records h, with_target) refl
 
-pub target-out : (table : List ℕ) (i place : ℕ) → 1024 ≤ i → table ≡ with_target table i place
+pub target-out : (table : List ℕ) (i place : ℕ) → max_records ≤ i → table ≡ with_target table i place
 unfolding with_target
-target-out table i place h = rw (le-ltb i 1024 h, with_target) refl
+target-out table i place h = rw (le-ltb i max_records h, with_target) refl
 
 module _ (table : List ℕ) (i place : ℕ) where
   -- a number elsewhere
-  elsewhere : (k : ℕ) → ((i < 1024) → k ≡ 3072 + i → ⊥) → get_or (with_target table i place) k 0 ≡ get_or table k 0
-  elsewhere k n = go (dec_lt i 1024)
+  elsewhere : (k : ℕ) → ((i < max_records) → k ≡ targets_from + i → ⊥) → get_or (with_target table i place) k 0 ≡ get_or table k 0
+  elsewhere k n = go (dec_lt i max_records)
     where
-      go : Dec (i < 1024) → get_or (with_target table i place) k 0 ≡ get_or table k 0
-      go (yes h) = rw (← target-in table i place h) (get_or-set_other table (3072 + i) k place 0 (n h))
+      go : Dec (i < max_records) → get_or (with_target table i place) k 0 ≡ get_or table k 0
+      go (yes h) = rw (← target-in table i place h) (get_or-set_other table (targets_from + i) k place 0 (n h))
       go (no h) = rw (← target-out table i place (omega arith)) refl
 
   -- an entry of another part, or of another record
   pub other-entry : (part j : ℕ) → (part ≡ target_part → j ≡ i → ⊥) → entry_of part (with_target table i place) j ≡ entry_of part table j
   unfolding entry_of
-  other-entry part j n = go (dec_lt j 1024)
+  other-entry part j n = go (dec_lt j max_records)
     where
-      differ : j < 1024 → i < 1024 → part * 1024 + j ≡ 3072 + i → ⊥
+      differ : j < max_records → i < max_records → part * max_records + j ≡ targets_from + i → ⊥
       differ h l e = let same : part ≡ target_part = omega arith in n same (omega arith)
 
-      go : Dec (j < 1024) → entry_of part (with_target table i place) j ≡ entry_of part table j
-      go (yes h) = ap (λ (n : ℕ). number_if (ltb j 1024) n) (elsewhere (part * 1024 + j) (differ h))
-      go (no h) = rw (le-ltb j 1024 (omega arith)) refl
+      go : Dec (j < max_records) → entry_of part (with_target table i place) j ≡ entry_of part table j
+      go (yes h) = ap (λ (n : ℕ). number_if (ltb j max_records) n) (elsewhere (part * max_records + j) (differ h))
+      go (no h) = rw (le-ltb j max_records (omega arith)) refl
 
   -- the entry itself
-  pub own-entry : i < 1024 → 3072 + i < length table → entry_of target_part (with_target table i place) i ≡ place
+  pub own-entry : i < max_records → targets_from + i < length table → entry_of target_part (with_target table i place) i ≡ place
   unfolding entry_of
-  own-entry h l = rw (lt-ltb i 1024 h, ← target-in table i place h) (get_or-set_same table (3072 + i) place 0 l)
+  own-entry h l = rw (lt-ltb i max_records h, ← target-in table i place h) (get_or-set_same table (targets_from + i) place 0 l)
 
 -- the type at a place
 abbrev pub inner_at : List ℕ → ℕ → Option (Rec ℕ Span)
@@ -155,7 +156,7 @@ module _ (table sheet : List ℕ) (i e : ℕ) where
       (end : chain_end (context_by table sheet) (declarations_of table) (view_at sheet i) ≡ view_at sheet e)
       (ended : behind (context_by table sheet) (view_at sheet e) ≡ none) where
     -- the name leads to the end now
-    inner-now : i < 1024 → 3072 + i < length table → inner_type (declared_by short sheet i) ≡ some (view_at sheet e)
+    inner-now : i < max_records → targets_from + i < length table → inner_type (declared_by short sheet i) ≡ some (view_at sheet e)
     unfolding declared_by context_by view_at
     inner-now h l = go (entry_of declaration_part table i) refl
       where
@@ -169,18 +170,18 @@ module _ (table sheet : List ℕ) (i e : ℕ) where
 
     next : (r : Rec ℕ Span) → Next ctx r (behind ctx' r)
     unfolding context_by view_at
-    next r = go (is Kind.Named r) refl (ℕ_discrete r.name i) (dec_lt i 1024) (dec_lt (3072 + i) (length table))
+    next r = go (is Kind.Named r) refl (ℕ_discrete r.name i) (dec_lt i max_records) (dec_lt (targets_from + i) (length table))
       where
         same-table : table ≡ short → Next ctx r (behind ctx' r)
         same-table q = kept (ap (λ t. behind (context_by t sheet) r) (sym q))
 
-        go : (b : Bool) → is Kind.Named r ≡ b → Dec (r.name ≡ i) → Dec (i < 1024) → Dec (3072 + i < length table) → Next ctx r (behind ctx' r)
+        go : (b : Bool) → is Kind.Named r ≡ b → Dec (r.name ≡ i) → Dec (i < max_records) → Dec (targets_from + i < length table) → Next ctx r (behind ctx' r)
         go false a x y z = kept (other-behind ctx' r a ∙ sym (other-behind ctx r a))
         go true a (no n) y z =
             kept (named-behind ctx' r a ∙ ap inner_type (other-declared r.name n) ∙ sym (named-behind ctx r a))
         go true a (yes q) (no y) z = same-table (target-out table i (suc e) (omega arith))
         go true a (yes q) (yes y) (no z) =
-            same-table (sym (set_out table (3072 + i) (suc e) (omega arith)) ∙ target-in table i (suc e) y)
+            same-table (sym (set_out table (targets_from + i) (suc e) (omega arith)) ∙ target-in table i (suc e) y)
         go true a (yes q) (yes y) (yes z) =
             let own = leads-named ctx (view_at sheet i) leads in
             let same : behind ctx r ≡ behind ctx (view_at sheet i) =
@@ -199,7 +200,7 @@ module _ (table sheet : List ℕ) (i e : ℕ) where
             leads = short-leads ctx ctx' lasts same_count next;
             ends = short-ends ctx ctx' lasts same_count next;
             imported_names = λ t j. not (eqb (sym (kept_entry import_part j (λ h. omega arith)) t) 0);
-            has_wildcard_import = ap (λ (n : ℕ). not (eqb n 0)) (sym (elsewhere table i (suc e) 5120 (λ h k. omega arith)));
+            has_wildcard_import = ap (λ (n : ℕ). not (eqb n 0)) (sym (elsewhere table i (suc e) totals_from (λ h k. omega arith)));
             declarations = same_count;
             same = λ t j k. eqb (sym (kept_entry id_part j (λ h. omega arith)) t) (sym (kept_entry id_part k (λ h. omega arith)) t);
             word = λ t j. number_if (within 1 7 (code j t)) (code j t);

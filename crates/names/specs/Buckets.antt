@@ -1,6 +1,7 @@
 -- How ids are found without comparing each name with all others: the records that are the first with their name stand in chains, one for each
 -- bucket, and a name is looked for in the chain of its bucket alone. The bucket is worked out from the name's bytes.
 use Rattle.std.specs.Prelude.{ℕ, suc, ◌+◌, ◌*◌, ◌-◌, ◌/◌, ◌%◌, ◌≤◌, ◌<◌, ◌≡◌, true, false, List, length, get_or, ltb}
+use Rattle.rules.specs.Refusals.{max_records}
 use Rattle.names.specs.NameTable.{is_keyed, id_in}
 use Rattle.names.specs.Parts.{known, known_count, record_of}
 
@@ -40,7 +41,7 @@ weighed name =
 
 -- the bucket of a name
 unfoldable pub bucket_of : List ℕ → ℕ
-bucket_of name = (weighed name / 262144 + weighed name / 1099511627776) % 1024
+bucket_of name = (weighed name / 262144 + weighed name / 1099511627776) % max_records
 
 module _ (sheet names : List ℕ) where
   -- record j is the first with its name, which is of bucket b
@@ -58,7 +59,7 @@ module _ (sheet names : List ℕ) where
 
   -- the chains of the records before record i: `heads` has the place of each bucket's last, `links` that of the one before a record
   pub record Chained (heads links : List ℕ) (i : ℕ) : Type 0 where
-    pub heads-size : length heads ≡ 1024
-    pub links-size : length links ≡ 1024
+    pub heads-size : length heads ≡ max_records
+    pub links-size : length links ≡ max_records
     pub head : (b : ℕ) → LastLead b i (get_or heads b 0)
     pub link : (b k : ℕ) → k < i → Lead b k → LastLead b k (get_or links k 0)

@@ -1,9 +1,8 @@
 -- The ends of chains of named newtypes, and a table that leads to them at once.
-use Rattle.std.specs.Prelude.{ℕ, suc, ◌*◌, ◌≡◌, true, List, ◌++◌, length, take, drop}
+use Rattle.std.specs.Prelude.{ℕ, suc, ◌≡◌, true, List, ◌++◌, length, take, drop}
 use Rattle.std.proofs.Math.Option.{none}
 use Rattle.rules.specs.Context.{behind, chain_end}
-use Rattle.rules.specs.Refusals.{max_records}
-use Rattle.names.specs.View.{view_at, entry_of, target_part, code_part, declarations_of, context_by}
+use Rattle.names.specs.View.{view_at, entry_of, target_part, targets_from, codes_from, declarations_of, context_by}
 use Rattle.names.specs.SameEnds.{leads_on, SameEnds, Lasting}
 
 -- the chain from the type at record t on ends with the type at record e
@@ -20,7 +19,7 @@ pub data TargetOf (sheet before after : List ℕ) (k : ℕ) : Type 0 where
 
 -- all numbers of a table but its targets
 unfoldable pub beside_targets : List ℕ → List ℕ
-beside_targets table = take (target_part * max_records) table ++ drop (code_part * max_records) table
+beside_targets table = take targets_from table ++ drop codes_from table
 
 -- The table is the one before, but that it may lead from types to the ends of their chains at once. Which of them it shortens is left free.
 pub record Shortened (sheet before after : List ℕ) : Type 0 where

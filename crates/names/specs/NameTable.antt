@@ -9,9 +9,9 @@ use Rattle.rules.specs.Words.{number_if, any_of, select, same_bytes}
 use Rattle.rules.specs.Kind
 use Rattle.rules.specs.Sub
 use Rattle.rules.specs.Record.{Rec, is, records}
-use Rattle.rules.specs.Refusals.{max_records}
 use Rattle.rules.specs.Asked.{is_compared, is_worded, is_spelled}
 use Rattle.rules.specs.Context.{words, word_from, valid_field_name, is_blank}
+use Rattle.rules.specs.Refusals.{max_records}
 
 module _ {A : Type 0} where
   -- the place of the first element that passes the test, counted from 1; 0 where there is none

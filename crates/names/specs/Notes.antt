@@ -4,8 +4,10 @@ use Rattle.std.specs.Prelude.{ℕ, zero, suc, ◌+◌, ◌<◌, ◌≡◌, Bool,
 use Rattle.rules.specs.Kind
 use Rattle.rules.specs.Words.{number_if, any_of}
 use Rattle.rules.specs.Record.{Rec, is}
+use Rattle.rules.specs.Refusals.{max_records}
 use Rattle.names.specs.NameTable.{place_of, same_name, id_in}
 use Rattle.names.specs.Parts.{known, known_count, record_of, ids, targets, codes}
+use Rattle.names.specs.View.{ids_from, declarations_from, imports_from, targets_from, codes_from, table_size}
 
 module _ {P : Type 0} where
   -- the record is of that kind, and record k is the first with its name
@@ -14,11 +16,11 @@ module _ {P : Type 0} where
 
 -- the part of the table from place p on: its number k is f k
 pub record Part (p : ℕ) (f : ℕ → ℕ) (table : List ℕ) : Type 0 where
-  pub at : (k : ℕ) → k < 1024 → get_or table (p + k) 0 ≡ f k
+  pub at : (k : ℕ) → k < max_records → get_or table (p + k) 0 ≡ f k
 
 -- nothing is noted at the first n ids
 unfoldable pub Silent : List ℕ → ℕ → Type 0
-Silent table n = (k : ℕ) → k < n → (get_or table (1024 + k) 0 ≡ 0) × (get_or table (2048 + k) 0 ≡ 0)
+Silent table n = (k : ℕ) → k < n → (get_or table (declarations_from + k) 0 ≡ 0) × (get_or table (imports_from + k) 0 ≡ 0)
 
 -- a number stored where there is 0
 unfoldable pub set_first : List ℕ → ℕ → ℕ → List ℕ
@@ -34,12 +36,12 @@ module _ (sheet names : List ℕ) where
 
   -- the table has the ids and the codes of the first i records, and the notes of the first m
   pub record Read (table : List ℕ) (i m : ℕ) : Type 0 where
-    pub size : length table ≡ 5122
-    pub ids-part : Part 0 (λ k. get_or (take i (ids sheet names)) k 0) table
-    pub declaration-notes : Part 1024 (declaration_note m) table
-    pub import-notes : Part 2048 (import_note m) table
-    pub targets-part : Part 3072 (λ k. 0) table
-    pub codes-part : Part 4096 (λ k. get_or (take i (codes sheet names)) k 0) table
+    pub size : length table ≡ table_size
+    pub ids-part : Part ids_from (λ k. get_or (take i (ids sheet names)) k 0) table
+    pub declaration-notes : Part declarations_from (declaration_note m) table
+    pub import-notes : Part imports_from (import_note m) table
+    pub targets-part : Part targets_from (λ k. 0) table
+    pub codes-part : Part codes_from (λ k. get_or (take i (codes sheet names)) k 0) table
 
   -- the id whose note stands at k when what is noted is spread to the first i records
   unfoldable pub id_noted : ℕ → ℕ → ℕ
@@ -47,9 +49,9 @@ module _ (sheet names : List ℕ) where
 
   -- the table has the ids and the codes, and what is noted is spread to the first i records
   pub record Spread (table : List ℕ) (i : ℕ) : Type 0 where
-    pub size : length table ≡ 5122
-    pub ids-part : Part 0 (λ k. get_or (ids sheet names) k 0) table
-    pub declaration-notes : Part 1024 (λ k. declaration_note (known_count sheet) (id_noted i k)) table
-    pub import-notes : Part 2048 (λ k. import_note (known_count sheet) (id_noted i k)) table
-    pub targets-part : Part 3072 (λ k. get_or (take i (targets sheet names)) k 0) table
-    pub codes-part : Part 4096 (λ k. get_or (codes sheet names) k 0) table
+    pub size : length table ≡ table_size
+    pub ids-part : Part ids_from (λ k. get_or (ids sheet names) k 0) table
+    pub declaration-notes : Part declarations_from (λ k. declaration_note (known_count sheet) (id_noted i k)) table
+    pub import-notes : Part imports_from (λ k. import_note (known_count sheet) (id_noted i k)) table
+    pub targets-part : Part targets_from (λ k. get_or (take i (targets sheet names)) k 0) table
+    pub codes-part : Part codes_from (λ k. get_or (codes sheet names) k 0) table

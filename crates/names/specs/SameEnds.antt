@@ -1,10 +1,10 @@
 -- Contexts that say the same of names, and whose chains of named newtypes end in the same types, in however many steps.
-use Rattle.std.specs.Prelude.{ℕ, ◌+◌, ◌*◌, ◌≡◌, Bool, true, false, List, set, ltb}
+use Rattle.std.specs.Prelude.{ℕ, ◌+◌, ◌≡◌, Bool, true, false, List, set, ltb}
 use Rattle.std.proofs.Math.Option.{Option, some, none}
 use Rattle.rules.specs.Record.{Rec}
 use Rattle.rules.specs.Context.{ValidationContext, Declared, behind, chain_end, never_ends}
 use Rattle.rules.specs.Refusals.{max_records}
-use Rattle.names.specs.View.{target_part}
+use Rattle.names.specs.View.{targets_from}
 
 module _ {N P : Type 0} where
   -- the sub of what a name is declared as
@@ -34,4 +34,4 @@ module _ {N P : Type 0} where
 
 -- the table with that place as the target of record i
 unfoldable pub with_target : List ℕ → ℕ → ℕ → List ℕ
-with_target table i place = elim (ltb i max_records) [ true ↦ set table (target_part * max_records + i) place | false ↦ table ]
+with_target table i place = elim (ltb i max_records) [ true ↦ set table (targets_from + i) place | false ↦ table ]

@@ -48,6 +48,29 @@ target_part = 3
 abbrev pub code_part : ℕ
 code_part = 4
 
+-- where the parts begin in the table
+abbrev pub ids_from : ℕ
+ids_from = id_part * max_records
+
+abbrev pub declarations_from : ℕ
+declarations_from = declaration_part * max_records
+
+abbrev pub imports_from : ℕ
+imports_from = import_part * max_records
+
+abbrev pub targets_from : ℕ
+targets_from = target_part * max_records
+
+abbrev pub codes_from : ℕ
+codes_from = code_part * max_records
+
+-- where the two numbers behind the parts stand, and how many numbers a table has
+abbrev pub totals_from : ℕ
+totals_from = 5 * max_records
+
+abbrev pub table_size : ℕ
+table_size = totals_from + 2
+
 -- the greatest number of 16 bits, which a place may be: an index, which is one less, is below it
 abbrev pub max_place : ℕ
 max_place = 65535
@@ -58,10 +81,10 @@ entry_of part table i = number_if (ltb i max_records) (get_or table (part * max_
 
 -- the two numbers behind the parts
 abbrev pub wildcard_of : List ℕ → ℕ
-wildcard_of table = get_or table (5 * max_records) 0
+wildcard_of table = get_or table totals_from 0
 
 abbrev pub declarations_of : List ℕ → ℕ
-declarations_of table = get_or table (5 * max_records + 1) 0
+declarations_of table = get_or table (totals_from + 1) 0
 
 -- what record i's name is declared as
 unfoldable pub declared_by : List ℕ → List ℕ → ℕ → Option (Declared ℕ Span)

@@ -1,6 +1,7 @@
 // The parts of the table. The records are read once, then what is noted at the ids is spread to all records. The table is changed while sheet and names text are
 // read: a struct of the three, lent by `&mut`, would have to promise in each function that these are still the same.
 ghost use Rattle.std.specs.Prelude.{◌≡◌, ◌++◌, List, ℕ, take, replicate};
+ghost use Rattle.names.specs.View.{totals_from, table_size};
 ghost use Rattle.names.specs.Notes.{Read};
 ghost use Rattle.names.specs.Parts.{known_count, ids, declarations, imported, targets, codes, totals};
 
@@ -14,7 +15,7 @@ use crate::table::NameTable;
 // Fills the ids and the codes, and notes what the records say of their names.
 #[tactic(auto, using(crate::proofs::Reading::read_all))]
 pub fn read_records(sheet: &[u8], names: &[u8], table: &mut NameTable)
-    requires { table.old ≡ replicate 5122 0 }
+    requires { table.old ≡ replicate table_size 0 }
     ensures { Read sheet.now names.now table.new (known_count sheet.now) (known_count sheet.now) }
 {
     let mut chains = Chains::new();
@@ -30,7 +31,7 @@ pub fn read_records(sheet: &[u8], names: &[u8], table: &mut NameTable)
 #[tactic(auto, using(crate::proofs::Spreading::spreads))]
 pub fn spread_notes(sheet: &[u8], names: &[u8], table: &mut NameTable)
     requires { Read sheet.now names.now table.old (known_count sheet.now) (known_count sheet.now) }
-    ensures { take 5120 table.new ≡ (((ids sheet.now names.now ++ declarations sheet.now names.now) ++ imported sheet.now names.now) ++ targets sheet.now names.now) ++ codes sheet.now names.now }
+    ensures { take totals_from table.new ≡ (((ids sheet.now names.now ++ declarations sheet.now names.now) ++ imported sheet.now names.now) ++ targets sheet.now names.now) ++ codes sheet.now names.now }
 {
     let n = count(sheet);
     if table.is_silent(n) {
@@ -44,7 +45,7 @@ pub fn spread_notes(sheet: &[u8], names: &[u8], table: &mut NameTable)
 // Fills whether there is a wildcard, and how many declarations there are.
 #[tactic(auto, using(crate::proofs::Found::counted_none))]
 pub fn fill_totals(sheet: &[u8], table: &mut NameTable)
-    ensures { (names : List ℕ) → table.new ≡ take 5120 table.old ++ totals sheet.now names }
+    ensures { (names : List ℕ) → table.new ≡ take totals_from table.old ++ totals sheet.now names }
 {
     // One loop for both, so that each kind is read once. As a `fold` it is not proved: its closure does not know that the sum fits.
     let n = count(sheet);

@@ -1,8 +1,8 @@
 // The table of names: what the rules ask of the name of each record.
-ghost use Rattle.std.specs.Prelude.{◌≡◌, ◌+◌, ◌*◌, ◌<◌, ◌≤◌, true, not, eqb, [], ◌∷◌, ◌++◌, ℕ, length, get_or, set, take, replicate, ltb, IfSome};
+ghost use Rattle.std.specs.Prelude.{◌≡◌, ◌+◌, ◌<◌, ◌≤◌, true, not, eqb, [], ◌∷◌, ◌++◌, ℕ, length, get_or, set, take, replicate, ltb, IfSome};
 ghost use Rattle.rules.specs.Words.{number_if};
 ghost use Rattle.rules.specs.Refusals.{max_records};
-ghost use Rattle.names.specs.View.{entry_of, id_part, declaration_part, import_part, target_part, code_part, max_place, wildcard_of, declarations_of};
+ghost use Rattle.names.specs.View.{entry_of, id_part, declaration_part, import_part, target_part, code_part, ids_from, declarations_from, imports_from, codes_from, totals_from, table_size, max_place, wildcard_of, declarations_of};
 ghost use Rattle.names.specs.Known.{index_at};
 ghost use Rattle.names.specs.Notes.{set_first, Silent};
 ghost use Rattle.names.specs.SameEnds.{with_target};
@@ -64,7 +64,7 @@ fn is_zero(numbers: &[u16]) -> bool
 impl NameTable {
     // A table of zeros.
     pub fn new() -> Self
-        ensures { result ≡ replicate 5122 0 }
+        ensures { result ≡ replicate table_size 0 }
     {
         NameTable {
             ids: [0; Sheet::MAX_RECORDS],
@@ -147,7 +147,7 @@ impl NameTable {
     #[tactic(auto, using(crate::proofs::Joined::stored_first))]
     pub(crate) fn set_id(&mut self, i: usize, id: usize)
         requires { (i < max_records) × (id < max_records) }
-        ensures { self.new ≡ set self.old (0 + i) id }
+        ensures { self.new ≡ set self.old (ids_from + i) id }
     {
         // a sheet has fewer records than 16 bits count
         self.ids[i] = id as u16;
@@ -156,7 +156,7 @@ impl NameTable {
     // Stores the code of record `i`.
     pub(crate) fn set_code(&mut self, i: usize, code: u16)
         requires { i < max_records }
-        ensures { self.new ≡ set self.old (4096 + i) code }
+        ensures { self.new ≡ set self.old (codes_from + i) code }
     {
         self.codes[i] = code;
     }
@@ -165,7 +165,7 @@ impl NameTable {
     #[tactic(auto, using(crate::proofs::Joined::stored_there), unfolding(crate::specs::Notes::set_first))]
     pub(crate) fn note_declaration(&mut self, i: usize, id: usize)
         requires { (i < max_records) × (id < max_records) }
-        ensures { self.new ≡ set_first self.old (max_records + id) (i + 1) }
+        ensures { self.new ≡ set_first self.old (declarations_from + id) (i + 1) }
     {
         if self.declarations[id] == 0 {
             // a sheet has fewer records than 16 bits count
@@ -177,7 +177,7 @@ impl NameTable {
     #[tactic(auto, using(crate::proofs::Joined::stored_third))]
     pub(crate) fn note_import(&mut self, id: usize)
         requires { id < max_records }
-        ensures { self.new ≡ set self.old (2 * max_records + id) 1 }
+        ensures { self.new ≡ set self.old (imports_from + id) 1 }
     {
         self.imported[id] = 1;
     }
@@ -185,7 +185,7 @@ impl NameTable {
     // The id that is stored for record `i`.
     pub(crate) fn stored_id(&self, i: usize) -> usize
         requires { i < max_records }
-        ensures { result ≡ get_or self.now (0 + i) 0 }
+        ensures { result ≡ get_or self.now (ids_from + i) 0 }
     {
         usize::from(self.ids[i])
     }
@@ -194,8 +194,8 @@ impl NameTable {
     #[tactic(auto, using(crate::proofs::Joined::copied))]
     pub(crate) fn copy_notes(&mut self, i: usize, id: usize) -> usize
         requires { (i < max_records) × (id < max_records) }
-        ensures place { result ≡ get_or self.old (max_records + id) 0 }
-        ensures stored { self.new ≡ set (set self.old (max_records + i) (get_or self.old (max_records + id) 0)) (2 * max_records + i) (get_or self.old (2 * max_records + id) 0) }
+        ensures place { result ≡ get_or self.old (declarations_from + id) 0 }
+        ensures stored { self.new ≡ set (set self.old (declarations_from + i) (get_or self.old (declarations_from + id) 0)) (imports_from + i) (get_or self.old (imports_from + id) 0) }
     {
         let place = self.declarations[id];
         self.declarations[i] = place;
@@ -215,7 +215,7 @@ impl NameTable {
     // Stores whether there is a wildcard, and how many declarations there are.
     #[tactic(auto, using(crate::proofs::Joined::front))]
     pub(crate) fn set_totals(&mut self, wildcards: u16, declared: u16)
-        ensures { self.new ≡ take 5120 self.old ++ (wildcards ∷ declared ∷ []) }
+        ensures { self.new ≡ take totals_from self.old ++ (wildcards ∷ declared ∷ []) }
     {
         self.wildcards = wildcards;
         self.declared = declared;

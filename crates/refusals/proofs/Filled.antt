@@ -13,7 +13,7 @@ use Rattle.rules.specs.declared.span.Span.{Span}
 use Rattle.rules.specs.Words.{any_of, same_bytes}
 use Rattle.rules.specs.Record.{Rec, records}
 use Rattle.rules.specs.Grammar.{start}
-use Rattle.rules.specs.Refusals.{first_fault}
+use Rattle.rules.specs.Refusals.{max_records, first_fault}
 use Rattle.rules.proofs.Records.{length-records}
 use Rattle.names.specs.NameTable.{declaration_in, table_of, name_table}
 use Rattle.names.specs.View.{entry_of, declaration_part}
@@ -27,7 +27,7 @@ after_front pre post x = ap (λ n. get_or (pre ++ x ∷ post) n x) (sym (add-zer
 
 -- the place of the first declaration of the name of the record after a front
 declaration-at :
-    (rs pre post : List (Rec (List ℕ) Span)) (r : Rec (List ℕ) Span) → length rs ≤ 1024 → rs ≡ pre ++ r ∷ post →
+    (rs pre post : List (Rec (List ℕ) Span)) (r : Rec (List ℕ) Span) → length rs ≤ max_records → rs ≡ pre ++ r ∷ post →
     entry_of declaration_part (table_of rs) (length pre) ≡ declaration_in rs r
 declaration-at rs pre post r few e =
     let below : length pre < length rs = omega (arith, ap length e, length-append pre (r ∷ post)) in
@@ -41,7 +41,7 @@ pub pass-filled :
 unfolding name_table any_of
 pass-filled sheet names h =
     let rs : List (Rec (List ℕ) Span) = records sheet names in
-    let few : length rs ≤ 1024 = omega (arith, length-records sheet names) in
+    let few : length rs ≤ max_records = omega (arith, length-records sheet names) in
     faults-same rs (is_second (name_table sheet names))
-    (λ pre post r e. ap (λ d. not (eqb d (suc (length pre)))) (rw (take_all 1024 rs few) (declaration-at rs pre post r few e)))
+    (λ pre post r e. ap (λ d. not (eqb d (suc (length pre)))) (rw (take_all max_records rs few) (declaration-at rs pre post r few e)))
     rs [] [] start refl (λ q. refl) refl
