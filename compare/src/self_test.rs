@@ -9,7 +9,7 @@ const CASES: u64 = 2000;
 
 type Spoiler = fn(&mut Answer);
 
-/// Each spoils one byte of a list's first violation, or leaves a violation out.
+/// Each spoils one byte of the list's first violation that the Rust decides, or leaves one out.
 const SPOILERS: [(&str, Spoiler); 12] = [
     ("class, byte 0", |a| first(a, |v| v.class ^= 1)),
     ("class, byte 1", |a| first(a, |v| v.class ^= 1 << 8)),
@@ -20,17 +20,33 @@ const SPOILERS: [(&str, Spoiler); 12] = [
     ("offset, byte 3", |a| first(a, |v| v.offset ^= 1 << 24)),
     ("length, byte 0", |a| first(a, |v| v.len ^= 1)),
     ("length, byte 3", |a| first(a, |v| v.len ^= 1 << 31)),
-    ("one more", |a| a.list.extend(a.list.last().copied())),
+    ("one more", |a| {
+        if let Some(&at) = decided(a).last() {
+            a.list.insert(at, a.list[at]);
+        }
+    }),
     ("the last left out", |a| {
-        a.list.truncate(a.list.len().max(1) - 1)
+        if let Some(&at) = decided(a).last() {
+            a.list.remove(at);
+        }
     }),
     ("the first left out", |a| {
-        a.list = a.list.split_off(a.list.len().min(1))
+        if let Some(&at) = decided(a).first() {
+            a.list.remove(at);
+        }
     }),
 ];
 
 fn first(answer: &mut Answer, spoil: fn(&mut Violation)) {
-    answer.list.iter_mut().take(1).for_each(spoil);
+    if let Some(&at) = decided(answer).first() {
+        spoil(&mut answer.list[at]);
+    }
+}
+
+/// Where in the list the violations stand that the Rust decides.
+fn decided(answer: &Answer) -> Vec<usize> {
+    let is_decided = |&at: &usize| RULES_OF_THE_RUST.contains(&answer.list[at].rule);
+    (0..answer.list.len()).filter(is_decided).collect()
 }
 
 /// One violation more, by a rule that the Rust has not.
