@@ -8,6 +8,7 @@ use borrow.Author.Tests.{lt-leb, le-leb}
 use Rattle.rules.specs.declared.span.Span.{Span}
 use Rattle.rules.specs.Words.{only_if}
 use Rattle.rules.specs.Record.{Rec, record_bytes, sub_in}
+use Rattle.rules.specs.Head.{body_of}
 use Rattle.rules.specs.Context.{ValidationContext}
 use Rattle.rules.specs.Rule.{Found}
 use Rattle.rules.specs.Bodies.{body_violations, declaration_violations, violations_of}
@@ -25,7 +26,7 @@ module _ (ctx : ValidationContext ℕ Span) (sheet : List ℕ) (n h : ℕ) (ends
   no-head vs le = subst (λ (rs : List (Rec ℕ Span)). Adds vs vs (declaration_violations ctx rs)) (sym (view-none sheet h n le) ∙ ends.1) (adds_none vs)
 
   pub at_head :
-      (sub : ℕ) (old now : Violations) → h < n → sub ≡ sub_in (record_bytes sheet h) → Adds old now (body_violations ctx sub (view_of sheet (h + 1) n)) →
+      (sub : ℕ) (old now : Violations) → h < n → sub ≡ sub_in (record_bytes sheet h) → Adds old now (body_violations ctx (body_of sub) (view_of sheet (h + 1) n)) →
       Adds old now (violations_of ctx (view_of sheet 0 n))
   unfolding EndsAt violations_of view_at
   at_head sub old now l hs adds =

@@ -2,6 +2,7 @@
 ghost use Rattle.std.specs.Prelude.{◌/◌, length, leb};
 ghost use Rattle.rules.specs.Words.{only_if};
 ghost use Rattle.rules.specs.Record.{record_size};
+ghost use Rattle.rules.specs.Head.{body_of};
 ghost use Rattle.rules.specs.Refusals.{max_length};
 ghost use Rattle.rules.specs.Bodies.{body_violations, violations_of};
 ghost use Rattle.names.specs.Known.{context_in, records_in};
@@ -23,7 +24,7 @@ use sheet::subs;
 // Adds what is wrong with the body, whose head has that sub.
 #[tactic(auto, unfolding(rules::specs::Bodies::body_violations))]
 fn check_body(body: WholeRecords, violations: &mut Violations, sub: u8)
-    ensures { Adds violations.old violations.new (body_violations (context_in body.entry.context) sub (records_in body.entry.context body.entry.range)) }
+    ensures { Adds violations.old violations.new (body_violations (context_in body.entry.context) (body_of sub) (records_in body.entry.context body.entry.range)) }
 {
     match sub {
         subs::MESSAGE => check_message(body, violations),

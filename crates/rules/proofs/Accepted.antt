@@ -7,14 +7,14 @@ use mathlib.Core.Logic.{inl, inr}
 use mathlib.Core.List.{List, [], ◌∷◌, ◌++◌}
 use mathlib.Core.Option.{Option, some, none}
 use native.Mathlib.Omega.{arith}
-use lib.Dec.{leb, eqb}
+use lib.Dec.{leb}
 use borrow.Author.Tests.{ne_eqb}
 use Rattle.std.proofs.lemmas.Bool.{or_cases}
 use Rattle.rules.specs.Words.{within, any_of, only_if}
 use Rattle.rules.specs.Kind
-use Rattle.rules.specs.Sub
 use Rattle.rules.specs.Record.{Rec, is, is_renaming}
-use Rattle.rules.specs.Grammar.{Step, to, fault, State, context, message, enum, flags, union, newtype, TypeState, type_step, no_type, start, done, opened, step, context_step, context_item, starts_context_item, none_due, between, unbacked, outside, type_due, field_list_step, enum_step, union_step, starts_item, starts_field_item}
+use Rattle.rules.specs.Head.{Body, message_body, enum_body, flags_body, union_body, newtype_body, body_of}
+use Rattle.rules.specs.Grammar.{Step, to, fault, State, context, message, enum, flags, union, newtype, TypeState, type_step, no_type, start, done, opened, step, context_step, context_item, starts_context_item, none_due, type_due, body_start, field_list_step, enum_step, union_step, starts_item, starts_field_item}
 use Rattle.rules.specs.Refusals.{Fault, own_fault, record_step, first_fault}
 use Rattle.rules.proofs.Machine.{to-inj, guarded-to, lifted-to, reads, reads_on, reads-kinds}
 use Rattle.rules.proofs.Taken.{within-true, within-false, field_list-range, type-kind, field_list-kind, enum_kind, union-kind}
@@ -37,26 +37,16 @@ in_body flags = true
 in_body (union s) = true
 in_body (newtype s) = true
 
+start-in_body : (b : Body) → in_body (body_start b) ≡ true
+start-in_body message_body = refl
+start-in_body enum_body = refl
+start-in_body flags_body = refl
+start-in_body union_body = refl
+start-in_body newtype_body = refl
+
 pub opened-body : (sub : ℕ) → in_body (opened sub) ≡ true
 unfolding opened
-opened-body sub = go (eqb sub Sub.MessageHead) (eqb sub Sub.EnumHead) (eqb sub Sub.FlagsHead) (eqb sub Sub.UnionHead)
-  where
-    go : (a b c d : Bool) → in_body
-        (elim a as (λ x. State) [
-          | true ↦ message between
-          | false ↦ elim b as (λ x. State) [
-            | true ↦ enum unbacked
-            | false ↦ elim c as (λ x. State) [
-              | true ↦ flags
-              | false ↦ elim d as (λ x. State) [ true ↦ union outside | false ↦ newtype type_due ]
-            ]
-          ]
-        ]) ≡ true
-    go true b c d = refl
-    go false true c d = refl
-    go false false true d = refl
-    go false false false true = refl
-    go false false false false = refl
+opened-body sub = start-in_body (body_of sub)
 
 module _ {N P : Type 0} where
   -- a machine's step at a record that is at no fault of its own: rows 3 to 7

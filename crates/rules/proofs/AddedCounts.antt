@@ -8,16 +8,18 @@ use lib.Dec.{eqb, ltb}
 use Rattle.rules.specs.Words.{only_if, select, any_of, items}
 use Rattle.rules.specs.Kind
 use Rattle.rules.specs.Record.{Rec, is, records}
+use Rattle.rules.specs.Head.{Body, message_body, enum_body, flags_body, union_body, newtype_body}
 use Rattle.rules.specs.Context.{ValidationContext}
 use Rattle.rules.specs.Rule.{Found, found_if, rule_row, OrdinalDuplicate, OrdinalReusedAfterRemoved}
-use Rattle.rules.specs.Bodies.{field_scheme, enum_scheme, flags_scheme, union_scheme, backing_max, used_ordinal, used_ordinals, slots, field_items, body_items, field_item_violations, field_list_violations, backing_violations, enum_violations, flags_violations, union_violations}
+use Rattle.rules.specs.Bodies.{field_scheme, enum_scheme, flags_scheme, union_scheme, backing_max, used_ordinal, used_ordinals, slots, field_items, body_items, field_item_violations, field_list_violations, backing_violations, enum_violations, flags_violations, union_violations, body_violations}
 use Rattle.rules.specs.Answer.{is_accepted, full_list}
-use Rattle.rules.specs.Items.{Added, FieldsAdded, SameButAdded, occurrences, is_in_class}
+use Rattle.rules.specs.Items.{starts_in, Added, FieldsAdded, SameButAdded, occurrences, is_in_class}
 use Rattle.rules.proofs.Occurrences.{tally-cons, tally-append}
 use Rattle.rules.proofs.ItemCounts.{by_rule, rule_tally, found-tally}
 use Rattle.rules.proofs.Cut.{cut_item, field_items-cut}
 use Rattle.rules.proofs.Added.{number-le, added-map, added-slots, added-list}
-use Rattle.rules.proofs.SheetCounts.{starts_by, violations_by, of_rule, BodiesCompare, sheets-compare}
+use Rattle.rules.proofs.SameLead.{SameBesideItems}
+use Rattle.rules.proofs.SheetCounts.{of_rule, BodiesCompare, sheets-compare}
 
 module _ {N P : Type 0} where
   -- the items of a message body are kept whole
@@ -75,20 +77,19 @@ module _ {N P : Type 0} (ctx : ValidationContext N P) (p : ℕ → Bool) (alike 
       less b = found-le 33 _ _ b.place (added-slots (λ a b r. r.head) used_ordinal (ltb (backing_max b.sub)) m)
 
   body-added :
-      (message enum flags union : Bool) (xs ys : List (Rec N P)) →
-      Added FieldsAdded (items (starts_by message) xs) (items (starts_by message) ys) →
-      (enum ≡ true → select (is Kind.Backing) xs ≡ select (is Kind.Backing) ys) →
-      (message ≡ false → enum ≡ false → flags ≡ false → union ≡ false → xs ≡ ys) →
-      rule_tally p (violations_by ctx message enum flags union xs) ≤ rule_tally p (violations_by ctx message enum flags union ys)
-  unfolding enum_violations flags_violations union_violations
-  body-added true enum flags union xs ys m backings inner = field-list-added xs ys (whole-added xs ys m)
-  body-added false true flags union xs ys m backings inner =
+      (b : Body) (xs ys : List (Rec N P)) →
+      Added FieldsAdded (items (starts_in b) xs) (items (starts_in b) ys) →
+      SameBesideItems b xs ys →
+      rule_tally p (body_violations ctx b xs) ≤ rule_tally p (body_violations ctx b ys)
+  unfolding body_violations enum_violations flags_violations union_violations
+  body-added message_body xs ys m beside = field-list-added xs ys (whole-added xs ys m)
+  body-added enum_body xs ys m beside =
       let own = added-list (λ a b r. r.head) ctx p enum_scheme refl (λ it. []) (λ a b r. omega arith) m in
-      let backing = backing-added xs ys (backings refl) m in
+      let backing = backing-added xs ys beside m in
       simp tally-append (omega arith)
-  body-added false false true union xs ys m backings inner =
+  body-added flags_body xs ys m beside =
       added-list (λ a b r. r.head) ctx p flags_scheme refl (λ it. []) (λ a b r. omega arith) m
-  body-added false false false true xs ys m backings inner =
+  body-added union_body xs ys m beside =
       added-list
       (λ a b r. r.head)
       ctx
@@ -98,7 +99,7 @@ module _ {N P : Type 0} (ctx : ValidationContext N P) (p : ℕ → Bool) (alike 
       (λ it. only_if (is Kind.Variant it.head) (field_list_violations ctx it.rest))
       (λ a b r. rw r.head (only-le (is Kind.Variant b.head) _ _ (field-list-added a.rest b.rest r.fields)))
       m
-  body-added false false false false xs ys m backings inner = rw (inner refl refl refl refl) (omega arith)
+  body-added newtype_body xs ys m beside = rw beside (omega arith)
 
 -- items added to a body, or to its variants' fields: of each class there are no fewer violations, where OrdinalDuplicate and
 -- OrdinalReusedAfterRemoved are counted together

@@ -1,23 +1,22 @@
 -- What each body has: a body is read by the machine of its head, and an item's rest is what its head lets follow.
-use Prim.Native.Nat.{ℕ}
 use mathlib.Core.Path.{◌≡◌, refl, sym, ap, ◌∙◌}
 use mathlib.Core.Bool.{Bool, true, false, not, ◌&&◌, ◌||◌, true≢false}
 use mathlib.Core.Logic.{inl, inr}
 use mathlib.Core.List.{List, [], ◌∷◌}
 use native.Mathlib.Omega.{arith}
-use lib.Dec.{leb, eqb}
-use borrow.Author.Tests.{eqb-true, ne_eqb}
+use lib.Dec.{leb}
+use borrow.Author.Tests.{ne_eqb}
 use Rattle.std.proofs.lemmas.Bool.{and_parts, or_cases}
 use Rattle.rules.specs.Words.{within, any_of, first_is, front, Item, items}
 use Rattle.rules.specs.Kind
-use Rattle.rules.specs.Sub
 use Rattle.rules.specs.Record.{Rec, is}
-use Rattle.rules.specs.Grammar.{Step, to, fault, FieldListState, between, UnionState, outside, EnumState, unbacked, TypeState, type_due, done, field_list_done, union_done, opened, step, type_step, field_list_step, enum_step, union_step, starts_field_item, starts_item, start}
+use Rattle.rules.specs.Head.{Body, message_body, enum_body, flags_body, union_body, newtype_body, body_of}
+use Rattle.rules.specs.Grammar.{Step, to, fault, FieldListState, between, UnionState, outside, EnumState, unbacked, TypeState, type_due, field_list_done, union_done, opened, step, type_step, field_list_step, enum_step, union_step, starts_field_item, starts_item, start}
 use Rattle.rules.proofs.Lists.{all_of, nil-of, Each, each_of, items-each}
 use Rattle.rules.proofs.Machine.{guarded-to, reads, reads_first, reads-kinds}
 use Rattle.rules.proofs.Taken.{within-true, outside-is, field_list-range, is_type_due, type-type, field_list-kind, enum_kind, union-kind}
 use Rattle.rules.proofs.Accepted.{checked, checked-to, Parts}
-use Rattle.rules.proofs.BodyReads.{always, type_done, sound, bare_reads, union_item_reads, enum-items, flags-items, union-items, flags_step, enum-reads, flags-reads, union-reads, newtype-reads}
+use Rattle.rules.proofs.BodyReads.{always, type_done, sound, bare_reads, union_item_reads, enum-items, flags-items, union-items, flags_step, body_reads, message-reads, enum-reads, flags-reads, union-reads, newtype-reads}
 
 module _ {N P : Type 0} where
   -- where a list is read item by item, each item is read
@@ -169,21 +168,21 @@ module _ {N P : Type 0} where
           go true e = cc (rw (e, type_step) at d)
           go false e = rw e at (type-type type_due r refl d).0
 
-  module _ (same : N → N → Bool) (rs : List (Rec N P)) (p : Parts same start [] 0 rs) where
-    -- the body is read as that of its head's sub
-    sub-reads : (sub : ℕ) → eqb p.head.sub sub ≡ true → reads (checked step) done (opened sub) p.body ≡ true
-    sub-reads sub e = rw (← (eqb-true p.head.sub sub e)) p.body_reads
+  -- what the records of a body have
+  abbrev pub BodyHas : Body → List (Rec N P) → Type 0
+  BodyHas message_body rs = FieldList rs
+  BodyHas enum_body rs = EnumBody rs
+  BodyHas flags_body rs = FlagsBody rs
+  BodyHas union_body rs = UnionBody rs
+  BodyHas newtype_body rs = NewtypeBody rs
 
-    pub accepted-enum : eqb p.head.sub Sub.EnumHead ≡ true → EnumBody p.body
-    accepted-enum e = enum-body p.body (sym (enum-reads p.body) ∙ sub-reads Sub.EnumHead e)
+  body-has : (b : Body) (rs : List (Rec N P)) → body_reads b rs ≡ true → BodyHas b rs
+  body-has message_body rs h = field-list rs (sym (message-reads rs) ∙ h)
+  body-has enum_body rs h = enum-body rs (sym (enum-reads rs) ∙ h)
+  body-has flags_body rs h = flags-body rs (sym (flags-reads rs) ∙ h)
+  body-has union_body rs h = union-body rs (sym (union-reads rs) ∙ h)
+  body-has newtype_body rs h = newtype-body rs (sym (newtype-reads rs) ∙ h)
 
-    pub accepted-flags : eqb p.head.sub Sub.FlagsHead ≡ true → FlagsBody p.body
-    accepted-flags e = flags-body p.body (sym (flags-reads p.body) ∙ sub-reads Sub.FlagsHead e)
-
-    pub accepted-union : eqb p.head.sub Sub.UnionHead ≡ true → UnionBody p.body
-    accepted-union e = union-body p.body (sym (union-reads p.body) ∙ sub-reads Sub.UnionHead e)
-
-    pub accepted-newtype : eqb p.head.sub Sub.MessageHead ≡ false → eqb p.head.sub Sub.EnumHead ≡ false
-        → eqb p.head.sub Sub.FlagsHead ≡ false → eqb p.head.sub Sub.UnionHead ≡ false → NewtypeBody p.body
-    accepted-newtype a b c d =
-        newtype-body p.body (sym (newtype-reads p.head.sub a b c d p.body) ∙ p.body_reads)
+  pub accepted-body : {same : N → N → Bool} {rs : List (Rec N P)} (p : Parts same start [] 0 rs) → BodyHas (body_of p.head.sub) p.body
+  unfolding opened
+  accepted-body p = body-has (body_of p.head.sub) p.body p.body_reads

@@ -5,14 +5,14 @@ use mathlib.Core.Bool.{Bool, true, false, not, ◌&&◌, and-false}
 use mathlib.Core.List.{List, [], ◌∷◌}
 use mathlib.Core.Option.{Option, some, none}
 use native.Mathlib.Omega.{arith}
-use lib.Dec.{eqb}
 use Rattle.std.proofs.lemmas.Bool.{or_parts}
 use Rattle.rules.specs.Words.{any_of, front, Item, items}
 use Rattle.rules.specs.Kind
-use Rattle.rules.specs.Sub
 use Rattle.rules.specs.Record.{Rec, is}
-use Rattle.rules.specs.Grammar.{Step, to, fault, lifted, guarded, State, message, enum, flags, union, newtype, FieldListState, between, field_item, UnionState, outside, variant, union_item, EnumState, unbacked, items as past, TypeState, type_due, none_due, done, field_list_done, union_done, opened, step, type_step, field_list_step, enum_step, union_step, starts_field_item, starts_item}
+use Rattle.rules.specs.Head.{Body, message_body, enum_body, flags_body, union_body, newtype_body}
+use Rattle.rules.specs.Grammar.{Step, to, fault, lifted, guarded, State, message, enum, flags, union, newtype, FieldListState, between, field_item, UnionState, outside, variant, union_item, EnumState, unbacked, items as past, TypeState, type_due, none_due, done, field_list_done, union_done, body_start, step, type_step, field_list_step, enum_step, union_step, starts_field_item, starts_item}
 use Rattle.rules.specs.Refusals.{own_fault}
+use Rattle.rules.specs.Items.{starts_in}
 use Rattle.rules.proofs.Lists.{all_of, all_of-same, is_nil, none_of-false, each_map, items-each}
 use Rattle.rules.proofs.Machine.{reads, reads_on, reads-items, reads-lifted}
 use Rattle.rules.proofs.Taken.{within-true, type-kind}
@@ -180,33 +180,33 @@ module _ {N P : Type 0} where
       rs
       (none_of-false rs)
 
-  pub message-reads : (rs : List (Rec N P))
-      → reads (checked step) done (opened Sub.MessageHead) rs ≡ reads (checked field_list_step) field_list_done between rs
-  unfolding step done opened
+  -- the records of a body are read
+  abbrev pub body_reads : Body → List (Rec N P) → Bool
+  body_reads b = reads (checked step) done (body_start b)
+
+  pub message-reads : (rs : List (Rec N P)) → body_reads message_body rs ≡ reads (checked field_list_step) field_list_done between rs
+  unfolding step done
   message-reads = lifted-reads field_list_step field_list_done message (λ s r. refl) (λ s. refl) between
 
-  pub enum-reads : (rs : List (Rec N P)) → reads (checked step) done (opened Sub.EnumHead) rs ≡ reads (checked enum_step) always unbacked rs
-  unfolding step done opened
+  pub enum-reads : (rs : List (Rec N P)) → body_reads enum_body rs ≡ reads (checked enum_step) always unbacked rs
+  unfolding step done
   enum-reads = lifted-reads enum_step always enum (λ s r. refl) (λ s. refl) unbacked
 
-  pub flags-reads : (rs : List (Rec N P)) → reads (checked step) done (opened Sub.FlagsHead) rs ≡ reads (checked flags_step) always tt rs
-  unfolding step done opened
+  pub flags-reads : (rs : List (Rec N P)) → body_reads flags_body rs ≡ reads (checked flags_step) always tt rs
+  unfolding step done
   flags-reads = lifted-reads flags_step always (λ u. flags) (λ s r. go (starts_item r)) (λ s. refl) tt
     where
       go : (b : Bool) → guarded b (to flags) ≡ lifted (λ (u : Unit {0}). flags) (guarded b (to tt))
       go true = refl
       go false = refl
 
-  pub union-reads : (rs : List (Rec N P))
-      → reads (checked step) done (opened Sub.UnionHead) rs ≡ reads (checked union_step) union_done outside rs
-  unfolding step done opened
+  pub union-reads : (rs : List (Rec N P)) → body_reads union_body rs ≡ reads (checked union_step) union_done outside rs
+  unfolding step done
   union-reads = lifted-reads union_step union_done union (λ s r. refl) (λ s. refl) outside
 
-  pub newtype-reads : (sub : ℕ) → eqb sub Sub.MessageHead ≡ false → eqb sub Sub.EnumHead ≡ false → eqb sub Sub.FlagsHead ≡ false
-      → eqb sub Sub.UnionHead ≡ false
-      → (rs : List (Rec N P)) → reads (checked step) done (opened sub) rs ≡ reads (checked type_step) type_done type_due rs
-  unfolding step done opened
-  newtype-reads sub a b c d rs = rw (a, b, c, d, opened) (lifted-reads type_step type_done newtype (λ s r. refl) (λ s. refl) type_due rs)
+  pub newtype-reads : (rs : List (Rec N P)) → body_reads newtype_body rs ≡ reads (checked type_step) type_done type_due rs
+  unfolding step done
+  newtype-reads = lifted-reads type_step type_done newtype (λ s r. refl) (λ s. refl) type_due
 
   -- a newtype has no items
   pub type-items : (s : TypeState) (rs : List (Rec N P))
@@ -225,3 +225,28 @@ module _ {N P : Type 0} where
               let w = within-true 14 15 r.kind e in
               let z : ⊥ = omega arith in
               absurd z
+
+  -- an item of a body is read
+  abbrev pub body_item_reads : Body → Item (Rec N P) → Bool
+  body_item_reads message_body it = field_item_reads it
+  body_item_reads enum_body it = bare_reads it
+  body_item_reads flags_body it = bare_reads it
+  body_item_reads union_body it = union_item_reads it
+  body_item_reads newtype_body it = false
+
+  -- a list is read item by item
+  abbrev ByItems : (Rec N P → Bool) → (Item (Rec N P) → Bool) → (List (Rec N P) → Bool) → Type 0
+  ByItems starts p reading =
+      (rs : List (Rec N P)) → reading rs ≡ (reading (front (λ r. not (starts r)) rs) && all_of p (items starts rs))
+
+  also_by_items : (starts : Rec N P → Bool) (p : Item (Rec N P) → Bool) {f g : List (Rec N P) → Bool} → ((rs : List (Rec N P)) → f rs ≡ g rs)
+      → ByItems starts p g → ByItems starts p f
+  also_by_items starts p same by rs = same rs ∙ by rs ∙ ap (λ b. b && all_of p (items starts rs)) (sym (same (front (λ r. not (starts r)) rs)))
+
+  -- every body is
+  pub body-items : (b : Body) → ByItems (starts_in b) (body_item_reads b) (body_reads b)
+  body-items message_body = also_by_items starts_field_item field_item_reads message-reads (field_list-items between)
+  body-items enum_body = also_by_items starts_item bare_reads enum-reads (enum-items unbacked)
+  body-items flags_body = also_by_items starts_item bare_reads flags-reads (flags-items tt)
+  body-items union_body = also_by_items starts_item union_item_reads union-reads (union-items outside)
+  body-items newtype_body = also_by_items starts_item (λ it. false) newtype-reads (type-items type_due)

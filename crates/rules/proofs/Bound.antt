@@ -12,6 +12,7 @@ use Rattle.rules.specs.Words.{number_if, only_if, any_of, member, select, rest, 
 use Rattle.rules.specs.Kind
 use Rattle.rules.specs.Sub
 use Rattle.rules.specs.Record.{Rec, is, records}
+use Rattle.rules.specs.Head.{Body, message_body, enum_body, flags_body, union_body, newtype_body, body_of}
 use Rattle.rules.specs.Context.{ValidationContext, declared_as, context_of}
 use Rattle.rules.specs.Grammar.{starts_field_item, starts_item}
 use Rattle.rules.specs.Rule.{Found, found_if}
@@ -159,26 +160,13 @@ module _ {N P : Type 0} (ctx : ValidationContext N P) where
         one-bound (is Kind.Named t && declared_as ctx Sub.Config t.name),
       ))
 
-  body-bound : (sub : ℕ) (body : List (Rec N P)) → length (body_violations ctx sub body) ≤ 3 * length body
+  body-bound : (b : Body) (rs : List (Rec N P)) → length (body_violations ctx b rs) ≤ 3 * length rs
   unfolding body_violations
-  body-bound sub body = go (eqb sub Sub.MessageHead) (eqb sub Sub.EnumHead) (eqb sub Sub.FlagsHead) (eqb sub Sub.UnionHead)
-    where
-      go : (a b c d : Bool) → length {A = Found P} (
-          elim a [
-            | true ↦ field_list_violations ctx body
-            | false ↦ elim b [
-              | true ↦ enum_violations ctx body
-              | false ↦ elim c [
-                | true ↦ flags_violations ctx body
-                | false ↦ elim d [ true ↦ union_violations ctx body | false ↦ newtype_violations ctx body ]
-              ]
-            ]
-          ]) ≤ 3 * length body
-      go true b c d = field-list-bound body
-      go false true c d = enum-bound body
-      go false false true d = flags-bound body
-      go false false false true = union-bound body
-      go false false false false = newtype-bound body
+  body-bound message_body = field-list-bound
+  body-bound enum_body = enum-bound
+  body-bound flags_body = flags-bound
+  body-bound union_body = union-bound
+  body-bound newtype_body = newtype-bound
 
   violations-bound : (rs : List (Rec N P)) → length (violations_of ctx rs) ≤ 3 * length rs
   unfolding violations_of
@@ -186,7 +174,7 @@ module _ {N P : Type 0} (ctx : ValidationContext N P) where
     where
       go : (own : List (Rec N P)) → length own ≤ length rs → length (declaration_violations ctx own) ≤ 3 * length rs
       go [] h = zero-le
-      go (head ∷ body) h = omega (arith, body-bound head.sub body)
+      go (head ∷ body) h = omega (arith, body-bound (body_of head.sub) body)
 
 -- the total is at most three times the records
 pub total-bound : (sheet names : List ℕ) → length (full_list sheet names) ≤ 3 * length (records sheet names)

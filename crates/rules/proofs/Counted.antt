@@ -3,31 +3,30 @@
 use Prim.Native.Nat.{ℕ, ◌+◌, ◌≤◌}
 use native.Mathlib.Nat.{zero-add}
 use native.Mathlib.Omega.{arith}
-use mathlib.Core.Path.{◌≡◌, refl, ap, subst⁻¹, ◌∙◌}
+use mathlib.Core.Path.{◌≡◌, refl, ap, ap₂, ◌∙◌}
 use mathlib.Core.Bool.{Bool, true, false, not, ◌||◌}
 use mathlib.Core.Logic.{inl, inr}
 use mathlib.Core.List.{List, [], ◌∷◌, map}
 use lib.ListN.{length-append}
-use lib.Dec.{eqb}
 use borrow.Author.Tests.{eqb-true, ne_eqb, not-false}
 use Rattle.std.proofs.lemmas.Bool.{or_cases, or_parts}
 use Rattle.rules.specs.declared.span.Span.{Span}
-use Rattle.rules.specs.Words.{within, any_of, select, front, first_is, same_bytes, Item, items}
+use Rattle.rules.specs.Words.{within, any_of, select, front, same_bytes, Item, items}
 use Rattle.rules.specs.Kind
-use Rattle.rules.specs.Sub
 use Rattle.rules.specs.Record.{Rec, is, records}
+use Rattle.rules.specs.Head.{Body, message_body, enum_body, flags_body, union_body, newtype_body, body_of}
 use Rattle.rules.specs.Context.{ValidationContext, context_of}
 use Rattle.rules.specs.Grammar.{start, starts_item}
 use Rattle.rules.specs.Rule.{Found, violation, OrdinalDuplicate}
-use Rattle.rules.specs.Bodies.{field_items, body_items, union_violations, body_violations, declaration_violations, violations_of}
+use Rattle.rules.specs.Bodies.{body_items, body_violations, declaration_violations, violations_of}
 use Rattle.rules.specs.Answer.{found_in, full_list, is_accepted}
-use Rattle.rules.specs.Items.{sum_of, distinct, untombstoned, fields_in, field_lists, distinct_untombstoned, occurrences, is_in_class}
+use Rattle.rules.specs.Items.{starts_in, field_lists_in, sum_of, distinct, untombstoned, fields_in, field_lists, distinct_untombstoned, occurrences, is_in_class}
 use Rattle.rules.proofs.Joined.{select-append}
 use Rattle.rules.proofs.Lists.{none_of-weaker, Each, each_nil, each-cons}
 use Rattle.rules.proofs.Taken.{within-true, outside-is}
 use Rattle.rules.proofs.Accepted.{Parts, accepted-parts}
-use Rattle.rules.proofs.Lead.{starts_at, from-head, items-from-head}
-use Rattle.rules.proofs.BodyKinds.{EnumBody, FlagsBody, NewtypeBody, UnionItem, UnionBody, accepted-enum, accepted-flags, accepted-union, accepted-newtype}
+use Rattle.rules.proofs.Lead.{from-head, body-from-head, items-from-head}
+use Rattle.rules.proofs.BodyKinds.{EnumBody, FlagsBody, NewtypeBody, UnionItem, BodyHas, accepted-body}
 use Rattle.rules.proofs.AcceptedSheet.{accepted-clean}
 use Rattle.rules.proofs.Lengths.{one, length-only_if}
 use Rattle.rules.proofs.Repeats.{is_repeat, repeats, repeats-nil, enum-quiet, flags-quiet, newtype-quiet, variant_repeats, union-repeats}
@@ -89,17 +88,9 @@ module _ {N P : Type 0} where
   abbrev distinct_in : List (List (Item (Rec N P))) → ℕ
   distinct_in lists = sum_of (map (λ its. distinct (untombstoned its)) lists)
 
-  -- the field lists of a union's items
-  abbrev variant_lists : List (Item (Rec N P)) → List (List (Item (Rec N P)))
-  variant_lists its = map (λ it. field_items it.rest) (select (λ it. is Kind.Variant it.head) its)
-
-  -- the field lists of a body, by the sub of its head
-  lists_at : ℕ → List (Rec N P) → List (List (Item (Rec N P)))
-  lists_at sub body =
-      elim (eqb sub Sub.MessageHead) [
-        | true ↦ items (starts_at sub) body ∷ []
-        | false ↦ elim (eqb sub Sub.UnionHead) [ true ↦ variant_lists (items (starts_at sub) body) | false ↦ [] ]
-      ]
+  -- the field lists of a body
+  abbrev lists_in : Body → List (Rec N P) → List (List (Item (Rec N P)))
+  lists_in b rs = field_lists_in b (items (starts_in b) rs)
 
   module _ (same : N → N → Bool) (rs : List (Rec N P)) (p : Parts same start [] 0 rs) where
     -- the fields stand in the body
@@ -118,21 +109,18 @@ module _ {N P : Type 0} where
         ))
 
     -- and so do the field lists
-    lists-of-body : field_lists rs ≡ lists_at p.head.sub p.body
-    unfolding field_lists lists_at
+    lists-of-body : field_lists rs ≡ lists_in (body_of p.head.sub) p.body
+    unfolding field_lists
     lists-of-body =
-        let own = from-head p.before p.head p.body p.head_kind p.before_kinds in
-        let its = items-from-head p.before p.head p.body p.head_kind p.before_kinds in
         ap field_lists p.split
-        ∙ λ i. elim (first_is (λ h. eqb h.sub Sub.MessageHead) (own i)) [
-          | true ↦ its i ∷ []
-          | false ↦ elim (first_is (λ h. eqb h.sub Sub.UnionHead) (own i)) [ true ↦ variant_lists (its i) | false ↦ [] ]
-        ]
+        ∙ ap₂ field_lists_in
+        (body-from-head p.before p.head p.body p.head_kind p.before_kinds)
+        (items-from-head p.before p.head p.body p.head_kind p.before_kinds)
 
 module _ {N P : Type 0} (ctx : ValidationContext N P) where
   -- each variant's fields are a list of their own
   abbrev VariantsCounted : List (Item (Rec N P)) → Type 0
-  VariantsCounted its = sum_of (map (λ it. fields_in it.rest) its) ≡ distinct_in (variant_lists its) + sum_of (map (variant_repeats ctx) its)
+  VariantsCounted its = sum_of (map (λ it. fields_in it.rest) its) ≡ distinct_in (field_lists_in union_body its) + sum_of (map (variant_repeats ctx) its)
 
   variants-counted : {its : List (Item (Rec N P))} → Each UnionItem its → VariantsCounted its
   unfolding sum_of select
@@ -145,50 +133,27 @@ module _ {N P : Type 0} (ctx : ValidationContext N P) where
           let empty : fields_in it.rest ≡ 0 = rw (u.alone e) (no_fields N P) in
           rw (e, select) (omega (arith, repeats-nil P))
 
-  union-counted : (body : List (Rec N P)) → UnionBody body →
-      fields_in body ≡ distinct_in (variant_lists (body_items body)) + repeats (union_violations ctx body)
-  union-counted body u =
-      omega (arith, items-fields body, ap fields_in u.begins, no_fields N P, variants-counted u.items, union-repeats ctx body)
+  -- the fields of a body are its distinct ordinals, or are told as repeats
+  BodyCounted : Body → List (Rec N P) → Type 0
+  BodyCounted b rs = fields_in rs ≡ distinct_in (lists_in b rs) + repeats (body_violations ctx b rs)
+
+  -- a body with neither fields nor lists nor repeats
+  bare-counted : (b : Body) (rs : List (Rec N P)) → fields_in rs ≡ 0 → lists_in b rs ≡ [] → repeats (body_violations ctx b rs) ≡ 0
+      → BodyCounted b rs
+  unfolding BodyCounted sum_of
+  bare-counted b rs f l q = rw l (omega arith)
+
+  body-counted : (b : Body) (rs : List (Rec N P)) → BodyHas b rs → BodyCounted b rs
+  unfolding BodyCounted body_violations sum_of
+  body-counted message_body rs has = omega (arith, list_counted ctx rs)
+  body-counted enum_body rs has = bare-counted enum_body rs (enum_fields rs has) refl (enum-quiet ctx rs)
+  body-counted flags_body rs has = bare-counted flags_body rs (flags-fields rs has) refl (flags-quiet ctx rs)
+  body-counted union_body rs has =
+      omega (arith, items-fields rs, ap fields_in has.begins, no_fields N P, variants-counted has.items, union-repeats ctx rs)
+  body-counted newtype_body rs has = bare-counted newtype_body rs (newtype-fields rs has) refl (newtype-quiet ctx rs)
 
   module _ (same : N → N → Bool) (rs : List (Rec N P)) (p : Parts same start [] 0 rs) where
-    -- the body is counted as one of that sub
-    BodyCounted : ℕ → Type 0
-    BodyCounted sub = fields_in p.body ≡ distinct_in (lists_at sub p.body) + repeats (body_violations ctx sub p.body)
-
-    -- a body with neither fields nor lists nor repeats
-    bare-counted : (sub : ℕ) → fields_in p.body ≡ 0 → lists_at sub p.body ≡ [] → repeats (body_violations ctx sub p.body) ≡ 0 →
-        BodyCounted sub
-    unfolding BodyCounted sum_of
-    bare-counted sub f l q = rw l (omega arith)
-
-    body-counted : BodyCounted p.head.sub
-    unfolding BodyCounted lists_at body_violations sum_of
-    body-counted =
-        go (eqb sub Sub.MessageHead) (eqb sub Sub.EnumHead) (eqb sub Sub.FlagsHead) (eqb sub Sub.UnionHead) refl refl refl refl
-      where
-        sub : ℕ
-        sub = p.head.sub
-
-        at : (n : ℕ) → eqb sub n ≡ true → BodyCounted n → BodyCounted sub
-        at n e h = subst⁻¹ BodyCounted (eqb-true sub n e) h
-
-        go : (a b c d : Bool) →
-            eqb sub Sub.MessageHead ≡ a → eqb sub Sub.EnumHead ≡ b → eqb sub Sub.FlagsHead ≡ c → eqb sub Sub.UnionHead ≡ d → BodyCounted sub
-        go true b c d e f g k = at Sub.MessageHead e (omega (arith, list_counted ctx p.body))
-        go false true c d e f g k =
-            at Sub.EnumHead f
-            (bare-counted Sub.EnumHead (enum_fields p.body (accepted-enum same rs p f)) refl (enum-quiet ctx p.body))
-        go false false true d e f g k =
-            at Sub.FlagsHead g
-            (bare-counted Sub.FlagsHead (flags-fields p.body (accepted-flags same rs p g)) refl (flags-quiet ctx p.body))
-        go false false false true e f g k = at Sub.UnionHead k (union-counted p.body (accepted-union same rs p k))
-        go false false false false e f g k =
-            bare-counted sub
-            (newtype-fields p.body (accepted-newtype same rs p e f g k))
-            (rw (e, k, lists_at))
-            (rw (e, f, g, k, body_violations) (newtype-quiet ctx p.body))
-
-    violations-of-body : violations_of ctx rs ≡ body_violations ctx p.head.sub p.body
+    violations-of-body : violations_of ctx rs ≡ body_violations ctx (body_of p.head.sub) p.body
     unfolding violations_of
     violations-of-body =
         ap (violations_of ctx) p.split
@@ -202,7 +167,7 @@ module _ {N P : Type 0} (ctx : ValidationContext N P) where
           fields-of-body same rs p,
           ap distinct_in (lists-of-body same rs p),
           ap repeats violations-of-body,
-          body-counted,
+          body-counted (body_of p.head.sub) p.body (accepted-body p),
         )
 
 -- the violations that tell of a repeated ordinal are those of the two classes

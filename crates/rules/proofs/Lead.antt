@@ -6,32 +6,25 @@ use mathlib.Core.Bool.{Bool, true, false, not, ◌&&◌, ◌||◌}
 use mathlib.Core.List.{List, [], ◌∷◌, ◌++◌}
 use mathlib.Core.Option.{Option, some, none}
 use lib.ListN.{length}
-use lib.Dec.{eqb, lit≤}
+use lib.Dec.{lit≤}
 use borrow.Author.Tests.{eqb-true}
 use Rattle.std.proofs.lemmas.Bool.{or_parts}
-use Rattle.rules.specs.Words.{within, any_of, front, rest, first_is, same_bytes, items}
+use Rattle.rules.specs.Words.{within, any_of, front, rest, same_bytes, items}
 use Rattle.rules.specs.Kind
-use Rattle.rules.specs.Sub
 use Rattle.rules.specs.Record.{Rec, is, is_renaming}
+use Rattle.rules.specs.Head.{Body, message_body, body_of}
 use Rattle.rules.specs.Context.{ValidationContext, context_of, declared, inner_of, word_from, words, is_blank, valid_field_name}
-use Rattle.rules.specs.Grammar.{start, starts_field_item, starts_item}
-use Rattle.rules.specs.Items.{lead_of, items_of, starts_item_of}
+use Rattle.rules.specs.Grammar.{start}
+use Rattle.rules.specs.Items.{starts_in, first_body, sheet_body, lead_of, items_of}
 use Rattle.rules.specs.Refusals.{Fault, endless_chain, leads_nowhere}
 use Rattle.rules.proofs.Lists.{none_of-weaker, none_of-and, none_of-front, front-past, rest-past, items-past, any_of-before, select-before}
 use Rattle.rules.proofs.Taken.{narrower, outside-is}
 use Rattle.rules.proofs.Accepted.{Parts}
 
--- a record that begins an item of the body of a head with that sub
-abbrev pub starts_at : {N P : Type 0} → ℕ → Rec N P → Bool
-starts_at sub r = elim (eqb sub Sub.MessageHead) [ true ↦ starts_field_item r | false ↦ starts_item r ]
-
 module _ {N P : Type 0} where
-  starts-kind : (sub : ℕ) (r : Rec N P) → within 11 15 r.kind ≡ false → starts_at sub r ≡ false
-  starts-kind sub r k = go (eqb sub Sub.MessageHead)
-    where
-      go : (b : Bool) → (elim b as (λ x. Bool) [ true ↦ starts_field_item r | false ↦ starts_item r ]) ≡ false
-      go true = narrower 11 15 11 13 r.kind (lit≤ tt) (lit≤ tt) k
-      go false = narrower 11 15 14 15 r.kind (lit≤ tt) (lit≤ tt) k
+  starts-kind : (b : Body) (r : Rec N P) → within 11 15 r.kind ≡ false → starts_in b r ≡ false
+  starts-kind message_body r k = narrower 11 15 11 13 r.kind (lit≤ tt) (lit≤ tt) k
+  starts-kind b r k = narrower 11 15 14 15 r.kind (lit≤ tt) (lit≤ tt) k
 
   -- records with a head, behind records of no kind from 10 to 16
   module _ (xs : List (Rec N P)) (h : Rec N P) (ys : List (Rec N P)) (head_kind : is Kind.Head h ≡ true)
@@ -43,31 +36,32 @@ module _ {N P : Type 0} where
         (none_of-weaker _ (is Kind.Head) (λ r. outside-is 10 16 10 r.kind refl) xs before_kinds)
         ∙ rw (head_kind, rest)
 
-    starts-at : starts_item_of (xs ++ (h ∷ ys)) ≡ starts_at h.sub
-    starts-at i r = elim (first_is (λ g. eqb g.sub Sub.MessageHead) (from-head i)) [ true ↦ starts_field_item r | false ↦ starts_item r ]
+    -- the body is the head's
+    pub body-from-head : sheet_body (xs ++ (h ∷ ys)) ≡ body_of h.sub
+    body-from-head = ap first_body from-head
 
-    before-starts : any_of (starts_at h.sub) xs ≡ false
+    before-starts : any_of (starts_in (body_of h.sub)) xs ≡ false
     before-starts =
-        none_of-weaker _ (starts_at h.sub)
-        (λ r k. starts-kind h.sub r (narrower 10 16 11 15 r.kind (lit≤ tt) (lit≤ tt) k))
+        none_of-weaker _ (starts_in (body_of h.sub))
+        (λ r k. starts-kind (body_of h.sub) r (narrower 10 16 11 15 r.kind (lit≤ tt) (lit≤ tt) k))
         xs
         before_kinds
 
-    head-starts : starts_at h.sub h ≡ false
-    head-starts = starts-kind h.sub h (rw (eqb-true h.kind 10 head_kind))
+    head-starts : starts_in (body_of h.sub) h ≡ false
+    head-starts = starts-kind (body_of h.sub) h (rw (eqb-true h.kind 10 head_kind))
 
-    pub lead-from-head : lead_of (xs ++ (h ∷ ys)) ≡ xs ++ (h ∷ front (λ r. not (starts_at h.sub r)) ys)
+    pub lead-from-head : lead_of (xs ++ (h ∷ ys)) ≡ xs ++ (h ∷ front (λ r. not (starts_in (body_of h.sub) r)) ys)
     unfolding lead_of front
     lead-from-head =
-        ap (λ start. front (λ r. not (start r)) (xs ++ (h ∷ ys))) starts-at
-        ∙ front-past (starts_at h.sub) xs (h ∷ ys) before-starts
+        ap (λ b. front (λ r. not (starts_in b r)) (xs ++ (h ∷ ys))) body-from-head
+        ∙ front-past (starts_in (body_of h.sub)) xs (h ∷ ys) before-starts
         ∙ ap (λ zs. xs ++ zs) (rw (head-starts, front))
 
-    pub items-from-head : items_of (xs ++ (h ∷ ys)) ≡ items (starts_at h.sub) ys
+    pub items-from-head : items_of (xs ++ (h ∷ ys)) ≡ items (starts_in (body_of h.sub)) ys
     unfolding items_of items
     items-from-head =
-        ap (λ start. items start (xs ++ (h ∷ ys))) starts-at
-        ∙ items-past (starts_at h.sub) xs (h ∷ ys) before-starts
+        ap (λ b. items (starts_in b) (xs ++ (h ∷ ys))) body-from-head
+        ∙ items-past (starts_in (body_of h.sub)) xs (h ∷ ys) before-starts
         ∙ rw (head-starts, items)
 
 module _ {N P : Type 0} {same : N → N → Bool} {rs : List (Rec N P)} (p : Parts same start [] 0 rs) where
@@ -76,10 +70,10 @@ module _ {N P : Type 0} {same : N → N → Bool} {rs : List (Rec N P)} (p : Par
   accepted-rest =
       ap (rest (λ r. not (is Kind.Head r))) p.split ∙ from-head p.before p.head p.body p.head_kind p.before_kinds
 
-  pub accepted-lead : lead_of rs ≡ p.before ++ (p.head ∷ front (λ r. not (starts_at p.head.sub r)) p.body)
+  pub accepted-lead : lead_of rs ≡ p.before ++ (p.head ∷ front (λ r. not (starts_in (body_of p.head.sub) r)) p.body)
   accepted-lead = ap lead_of p.split ∙ lead-from-head p.before p.head p.body p.head_kind p.before_kinds
 
-  pub accepted-items : items_of rs ≡ items (starts_at p.head.sub) p.body
+  pub accepted-items : items_of rs ≡ items (starts_in (body_of p.head.sub)) p.body
   accepted-items = ap items_of p.split ∙ items-from-head p.before p.head p.body p.head_kind p.before_kinds
 
 module _ {N P : Type 0} where
@@ -178,5 +172,5 @@ module _ {P : Type 0} where
       let head-is : is Kind.Declaration h ≡ false = rw (eqb-true h.kind 10 p.head_kind) in
       ap context_of p.split
       ∙ context-before p.before p.body h head-is kinds
-      ∙ sym (context-before p.before (front (λ r. not (starts_at h.sub r)) p.body) h head-is (none_of-front _ _ p.body kinds))
+      ∙ sym (context-before p.before (front (λ r. not (starts_in (body_of h.sub) r)) p.body) h head-is (none_of-front _ _ p.body kinds))
       ∙ ap context_of (sym (accepted-lead p))

@@ -3,11 +3,10 @@ use Prim.Native.Nat.{ℕ}
 use mathlib.Core.Bool.{Bool, true, false, not, ◌&&◌}
 use mathlib.Core.List.{List, [], ◌∷◌, ◌++◌, map, flat_map}
 use lib.ListN.{length}
-use lib.Dec.{eqb}
 use Rattle.rules.specs.Words.{only_if, any_of, Item}
 use Rattle.rules.specs.Kind
-use Rattle.rules.specs.Sub
 use Rattle.rules.specs.Record.{Rec, is}
+use Rattle.rules.specs.Head.{Body, message_body, enum_body, flags_body, union_body, newtype_body, body_of}
 use Rattle.rules.specs.Context.{ValidationContext, varint, zigzag}
 use Rattle.rules.specs.Rule.{Found, found_if}
 use Rattle.rules.specs.Types.{checked_parts, key_violations, element_violations, bit_name_violations, own_type_violations, types_violations}
@@ -151,31 +150,17 @@ module _ {N P : Type 0} (Q : P → Type 0) (ctx : ValidationContext N P) where
   newtype-places every-nil = every-nil
   newtype-places (every-cons q h) = search parts
 
-  body-places : (sub : ℕ) {body : List (Rec N P)} → Every (Placed Q) body → Every (At Q) (body_violations ctx sub body)
+  body-places : (b : Body) {rs : List (Rec N P)} → Every (Placed Q) rs → Every (At Q) (body_violations ctx b rs)
   unfolding body_violations enum_violations flags_violations union_violations
-  body-places sub {body} h =
-      go (eqb sub Sub.MessageHead) (eqb sub Sub.EnumHead) (eqb sub Sub.FlagsHead) (eqb sub Sub.UnionHead)
-    where
-      go : (b c d e : Bool) → Every (At Q) (
-          elim b [
-            | true ↦ field_list_violations ctx body
-            | false ↦ elim c [
-              | true ↦ enum_violations ctx body
-              | false ↦ elim d [
-                | true ↦ flags_violations ctx body
-                | false ↦ elim e [ true ↦ union_violations ctx body | false ↦ newtype_violations ctx body ]
-              ]
-            ]
-          ])
-      go true c d e = field-list-places h
-      go false true d e = search (parts, items-places, backing-places)
-      go false false true e = search (parts, items-places)
-      go false false false true = search (parts, items-places, variant-places)
-      go false false false false = newtype-places h
+  body-places message_body h = field-list-places h
+  body-places enum_body h = search (parts, items-places, backing-places)
+  body-places flags_body h = search (parts, items-places)
+  body-places union_body h = search (parts, items-places, variant-places)
+  body-places newtype_body h = newtype-places h
 
   declaration-places : {rs : List (Rec N P)} → Every (Placed Q) rs → Every (At Q) (declaration_violations ctx rs)
   declaration-places every-nil = every-nil
-  declaration-places (every-cons {x = head} q h) = body-places head.sub h
+  declaration-places (every-cons {x = head} q h) = body-places (body_of head.sub) h
 
   -- what holds of the places of the records holds of the places of the full list
   pub violation-places : {rs : List (Rec N P)} → Every (Placed Q) rs → Every (At Q) (violations_of ctx rs)

@@ -4,12 +4,13 @@ use Prim.Native.Nat.{ℕ}
 use mathlib.Core.Path.{◌≡◌, refl, sym, ap, ap₂, ◌∙◌}
 use mathlib.Core.Bool.{Bool, true, false, not, ◌&&◌, ◌||◌, true≢false}
 use mathlib.Core.List.{List, [], ◌∷◌, ◌++◌, map, flat_map}
-use lib.Dec.{eqb, ltb}
+use lib.Dec.{ltb}
 use borrow.Author.Tests.{eqb-true}
 use Rattle.rules.specs.Words.{only_if, any_of, select, member, Item, items}
 use Rattle.rules.specs.Kind
 use Rattle.rules.specs.Sub
 use Rattle.rules.specs.Record.{Rec, is}
+use Rattle.rules.specs.Head.{Body, message_body, enum_body, flags_body, union_body, newtype_body, body_of}
 use Rattle.rules.specs.Asked.{is_compared}
 use Rattle.rules.specs.Context.{ValidationContext, declared_as}
 use Rattle.rules.specs.Grammar.{starts_field_item, starts_item}
@@ -168,26 +169,20 @@ module _ {M N P : Type 0} {g : M → N} {Good Worded Spelled : M → Type 0} {ct
       declared sub = named-renamed alike t w (declared_as ctx sub) (declared_as ctx' sub) (as-renamed alike sub)
 
   body-renamed :
-      (sub : ℕ) {body : List (Rec M P)} → Every (WellNamed Good Worded Spelled) body →
-      body_violations ctx sub (map (renamed g) body) ≡ body_violations ctx' sub body
+      (b : Body) {rs : List (Rec M P)} → Every (WellNamed Good Worded Spelled) rs →
+      body_violations ctx b (map (renamed g) rs) ≡ body_violations ctx' b rs
   unfolding body_violations
-  body-renamed sub h =
-      λ i. elim (eqb sub Sub.MessageHead) as (λ b. List (Found P)) [
-        | true ↦ fields_renamed h i
-        | false ↦ elim (eqb sub Sub.EnumHead) as (λ b. List (Found P)) [
-          | true ↦ enum-renamed h i
-          | false ↦ elim (eqb sub Sub.FlagsHead) as (λ b. List (Found P)) [
-            | true ↦ flags-renamed h i
-            | false ↦ elim (eqb sub Sub.UnionHead) as (λ b. List (Found P)) [ true ↦ union-renamed h i | false ↦ newtype-renamed h i ]
-          ]
-        ]
-      ]
+  body-renamed message_body h = fields_renamed h
+  body-renamed enum_body h = enum-renamed h
+  body-renamed flags_body h = flags-renamed h
+  body-renamed union_body h = union-renamed h
+  body-renamed newtype_body h = newtype-renamed h
 
   declaration-renamed :
       {rs : List (Rec M P)} → Every (WellNamed Good Worded Spelled) rs →
       declaration_violations ctx (map (renamed g) rs) ≡ declaration_violations ctx' rs
   declaration-renamed every-nil = refl
-  declaration-renamed (every-cons {x = head} w h) = body-renamed head.sub h
+  declaration-renamed (every-cons {x = head} w h) = body-renamed (body_of head.sub) h
 
   -- well named records break the same rules at the same places under their other names
   pub violations-renamed :

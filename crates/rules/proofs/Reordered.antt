@@ -1,27 +1,25 @@
 -- A reordered sheet is accepted again: the machine begins an item only where it is done, and reads each item by itself, so that a body is
 -- read exactly if each of its items is, in whatever order; and the context, with the chains of its newtypes, stands before the items.
 use Prim.Native.Nat.{ℕ}
-use mathlib.Core.Path.{◌≡◌, refl, sym, ap, ap₂, subst, subst₂, ◌∙◌}
+use mathlib.Core.Path.{◌≡◌, refl, sym, ap, ap₂, subst₂, ◌∙◌}
 use mathlib.Core.Bool.{Bool, true, false, not, ◌&&◌, true≢false}
 use mathlib.Core.List.{List, [], ◌∷◌, ◌++◌, append_assoc, append_cancel_left, tail-eq_of_cons-eq}
 use mathlib.Core.Option.{Option, some, none}
 use lib.ListN.{length}
-use lib.Dec.{eqb}
-use borrow.Author.Tests.{eqb-true}
 use Rattle.rules.specs.Words.{front, rest, Item, items, same_bytes}
 use Rattle.rules.specs.Kind
-use Rattle.rules.specs.Sub
 use Rattle.rules.specs.Record.{Rec, is, records}
+use Rattle.rules.specs.Head.{Body, message_body, enum_body, flags_body, union_body, newtype_body, body_of}
 use Rattle.rules.specs.Context.{context_of}
-use Rattle.rules.specs.Grammar.{FieldListState, between, outside, unbacked, type_due, field_list_done, union_done, field_item, done, opened, step, type_step, field_list_step, enum_step, union_step, start, starts_field_item, starts_item}
+use Rattle.rules.specs.Grammar.{FieldListState, between, field_list_done, field_item, done, opened, step, field_list_step, start, starts_field_item}
 use Rattle.rules.specs.Refusals.{Fault, first_fault, records_fault, refusal, is_wrong_length, is_long_names}
 use Rattle.rules.specs.Answer.{is_accepted}
-use Rattle.rules.specs.Items.{Moved, moved-nil, stay, swap, and_then, FieldsMoved, SameButOrder, lead_of, items_of, starts_item_of}
+use Rattle.rules.specs.Items.{Moved, moved-nil, stay, swap, and_then, FieldsMoved, SameButOrder, starts_in, sheet_body, lead_of, items_of}
 use Rattle.rules.proofs.Lists.{is_nil, all_of, front_rest}
 use Rattle.rules.proofs.Machine.{reads}
 use Rattle.rules.proofs.Accepted.{is_clean, clean-none, checked, Parts, accepted-parts, body-kinds, opened-body}
-use Rattle.rules.proofs.Lead.{starts_at, lead-from-head, items-from-head, accepted-lead, accepted-items, last_row, last_row-before}
-use Rattle.rules.proofs.BodyReads.{type-items, sound, bare_reads, field_item_reads, union_item_reads, field_list-items, enum-items, flags-items, union-items, message-reads, enum-reads, flags-reads, union-reads, newtype-reads, flags_step, type_done, always}
+use Rattle.rules.proofs.Lead.{lead-from-head, items-from-head, accepted-lead, accepted-items, last_row, last_row-before}
+use Rattle.rules.proofs.BodyReads.{sound, bare_reads, field_item_reads, union_item_reads, body_reads, body_item_reads, field_list-items, body-items}
 
 module _ {A : Type 0} where
   -- what holds of every element holds in whatever order
@@ -88,90 +86,36 @@ module _ {N P : Type 0} where
       λ i. sound (m.head i)
       && (elim (is Kind.Variant (m.head i)) [ true ↦ fields-moved between a b m i | false ↦ nothing-moved a b m i ])
 
-module _ (N P : Type 0) where
+  item-moved : (b : Body) (x y : Item (Rec N P)) → FieldsMoved x y → body_item_reads b x ≡ body_item_reads b y
+  item-moved message_body = field-moved
+  item-moved enum_body = bare-moved
+  item-moved flags_body = bare-moved
+  item-moved union_body = variant-moved
+  item-moved newtype_body = λ x y m. refl
+
   -- bodies that are the same but for the order of their items are read alike
-  Alike : ℕ → Type 0
-  Alike sub =
-      (xs ys : List (Rec N P)) → front (λ r. not (starts_at sub r)) xs ≡ front (λ r. not (starts_at sub r)) ys
-      → Moved FieldsMoved (items (starts_at sub) xs) (items (starts_at sub) ys)
-      → reads (checked step) done (opened sub) xs ≡ reads (checked step) done (opened sub) ys
+  body-moved : (b : Body) (xs ys : List (Rec N P)) → front (λ r. not (starts_in b r)) xs ≡ front (λ r. not (starts_in b r)) ys
+      → Moved FieldsMoved (items (starts_in b) xs) (items (starts_in b) ys) → body_reads b xs ≡ body_reads b ys
+  body-moved b = same_reads (starts_in b) (body_item_reads b) (body_reads b) (body-items b) (item-moved b)
 
-  message-alike : Alike Sub.MessageHead
-  unfolding Alike
-  message-alike xs ys e m =
-      message-reads xs
-      ∙ same_reads starts_field_item field_item_reads (reads (checked field_list_step) field_list_done between) (field_list-items between)
-      field-moved xs ys e m
-      ∙ sym (message-reads ys)
-
-  enum-alike : Alike Sub.EnumHead
-  unfolding Alike
-  enum-alike xs ys e m =
-      enum-reads xs
-      ∙ same_reads starts_item bare_reads (reads (checked enum_step) always unbacked) (enum-items unbacked) bare-moved xs ys e m
-      ∙ sym (enum-reads ys)
-
-  flags-alike : Alike Sub.FlagsHead
-  unfolding Alike
-  flags-alike xs ys e m =
-      flags-reads xs
-      ∙ same_reads starts_item bare_reads (reads (checked flags_step) always tt) (flags-items tt) bare-moved xs ys e m
-      ∙ sym (flags-reads ys)
-
-  union-alike : Alike Sub.UnionHead
-  unfolding Alike
-  union-alike xs ys e m =
-      union-reads xs
-      ∙ same_reads starts_item union_item_reads (reads (checked union_step) union_done outside) (union-items outside) variant-moved xs ys e m
-      ∙ sym (union-reads ys)
-
-  newtype-alike : (sub : ℕ) → eqb sub Sub.MessageHead ≡ false → eqb sub Sub.EnumHead ≡ false → eqb sub Sub.FlagsHead ≡ false
-      → eqb sub Sub.UnionHead ≡ false → Alike sub
-  unfolding Alike
-  newtype-alike sub a b c d =
-      subst
-      (λ (starts : Rec N P → Bool). (xs ys : List (Rec N P)) → front (λ r. not (starts r)) xs ≡ front (λ r. not (starts r)) ys
-      → Moved FieldsMoved (items starts xs) (items starts ys)
-      → reads (checked step) done (opened sub) xs ≡ reads (checked step) done (opened sub) ys)
-      (λ i r. elim (sym a i) [ true ↦ starts_field_item r | false ↦ starts_item r ])
-      (λ xs ys e m. newtype-reads sub a b c d xs
-      ∙ same_reads starts_item (λ it. false) (reads (checked type_step) type_done type_due) (type-items type_due) (λ x y k. refl) xs ys e m
-      ∙ sym (newtype-reads sub a b c d ys))
-
-  alike : (sub : ℕ) → Alike sub
-  alike sub =
-      go (eqb sub Sub.MessageHead) (eqb sub Sub.EnumHead) (eqb sub Sub.FlagsHead) (eqb sub Sub.UnionHead) refl refl refl refl
-    where
-      at : (n : ℕ) → eqb sub n ≡ true → Alike n → Alike sub
-      at n e h = subst Alike (sym (eqb-true sub n e)) h
-
-      go : (w x y z : Bool) → eqb sub Sub.MessageHead ≡ w → eqb sub Sub.EnumHead ≡ x → eqb sub Sub.FlagsHead ≡ y → eqb sub Sub.UnionHead ≡ z
-          → Alike sub
-      go true x y z a b c d = at Sub.MessageHead a message-alike
-      go false true y z a b c d = at Sub.EnumHead b enum-alike
-      go false false true z a b c d = at Sub.FlagsHead c flags-alike
-      go false false false true a b c d = at Sub.UnionHead d union-alike
-      go false false false false a b c d = newtype-alike sub a b c d
-
-module _ {N P : Type 0} where
   -- the reordered records have the same context and head, and a body that is read
   reordered-body : (same : N → N → Bool) (rs rs' : List (Rec N P)) (p : Parts same start [] 0 rs) → SameButOrder rs rs'
       → (body : List (Rec N P)) × (rs' ≡ p.before ++ (p.head ∷ body)) × (reads (checked step) done (opened p.head.sub) body ≡ true)
-  unfolding lead_of Alike
-  reordered-body same rs rs' p m = (body, split, sym (alike N P p.head.sub p.body body fronts pieces) ∙ p.body_reads)
+  unfolding lead_of opened
+  reordered-body same rs rs' p m = (body, split, sym (body-moved (body_of p.head.sub) p.body body fronts pieces) ∙ p.body_reads)
     where
       starts : Rec N P → Bool
-      starts = starts_at p.head.sub
+      starts = starts_in (body_of p.head.sub)
 
       later : List (Rec N P)
-      later = rest (λ r. not (starts_item_of rs' r)) rs'
+      later = rest (λ r. not (starts_in (sheet_body rs') r)) rs'
 
       body : List (Rec N P)
       body = front (λ r. not (starts r)) p.body ++ later
 
       split : rs' ≡ p.before ++ (p.head ∷ body)
       split =
-          sym (front_rest (λ r. not (starts_item_of rs' r)) rs')
+          sym (front_rest (λ r. not (starts_in (sheet_body rs') r)) rs')
           ∙ ap (λ zs. zs ++ later) (sym m.lead ∙ accepted-lead p)
           ∙ append_assoc p.before (p.head ∷ front (λ r. not (starts r)) p.body) later
 

@@ -7,15 +7,17 @@ use lib.Dec.{eqb, ltb}
 use Rattle.rules.specs.Words.{only_if, select, any_of, items}
 use Rattle.rules.specs.Kind
 use Rattle.rules.specs.Record.{Rec, is, records}
+use Rattle.rules.specs.Head.{Body, message_body, enum_body, flags_body, union_body, newtype_body}
 use Rattle.rules.specs.Context.{ValidationContext}
 use Rattle.rules.specs.Rule.{Found, found_if}
-use Rattle.rules.specs.Bodies.{field_scheme, enum_scheme, flags_scheme, union_scheme, backing_max, used_ordinal, used_ordinals, slots, field_items, body_items, field_item_violations, field_list_violations, backing_violations, enum_violations, flags_violations, union_violations, newtype_violations}
+use Rattle.rules.specs.Bodies.{field_scheme, enum_scheme, flags_scheme, union_scheme, backing_max, used_ordinal, used_ordinals, slots, field_items, body_items, field_item_violations, field_list_violations, backing_violations, enum_violations, flags_violations, union_violations, newtype_violations, body_violations}
 use Rattle.rules.specs.Answer.{is_accepted, full_list}
-use Rattle.rules.specs.Items.{Moved, FieldsMoved, SameButOrder, occurrences, is_like}
+use Rattle.rules.specs.Items.{starts_in, Moved, FieldsMoved, SameButOrder, occurrences, is_like}
 use Rattle.rules.proofs.Occurrences.{tally-append}
 use Rattle.rules.proofs.ItemCounts.{rule_tally}
 use Rattle.rules.proofs.Cut.{cut_item, field_items-cut}
-use Rattle.rules.proofs.SheetCounts.{starts_by, violations_by, of_rule, BodiesCompare, sheets-compare}
+use Rattle.rules.proofs.SameLead.{SameBesideItems}
+use Rattle.rules.proofs.SheetCounts.{of_rule, BodiesCompare, sheets-compare}
 use Rattle.rules.proofs.Moved.{Tells, same_bytes-tells, moved-map, moved-slots, moved-list}
 
 module _ {N P : Type 0} where
@@ -58,19 +60,18 @@ module _ {N P : Type 0} (ctx : ValidationContext N P) (tells : Tells ctx.same) (
       alike b = moved-slots (λ a b r. r.head) used_ordinal (ltb (backing_max b.sub)) m
 
   body-moved :
-      (message enum flags union : Bool) (xs ys : List (Rec N P)) →
-      Moved FieldsMoved (items (starts_by message) xs) (items (starts_by message) ys) →
-      (enum ≡ true → select (is Kind.Backing) xs ≡ select (is Kind.Backing) ys) →
-      (message ≡ false → enum ≡ false → flags ≡ false → union ≡ false → xs ≡ ys) →
-      rule_tally p (violations_by ctx message enum flags union xs) ≡ rule_tally p (violations_by ctx message enum flags union ys)
-  unfolding enum_violations flags_violations union_violations
-  body-moved true enum flags union xs ys m backings inner = field-list-moved xs ys (whole-moved xs ys m)
-  body-moved false true flags union xs ys m backings inner =
+      (b : Body) (xs ys : List (Rec N P)) →
+      Moved FieldsMoved (items (starts_in b) xs) (items (starts_in b) ys) →
+      SameBesideItems b xs ys →
+      rule_tally p (body_violations ctx b xs) ≡ rule_tally p (body_violations ctx b ys)
+  unfolding body_violations enum_violations flags_violations union_violations
+  body-moved message_body xs ys m beside = field-list-moved xs ys (whole-moved xs ys m)
+  body-moved enum_body xs ys m beside =
       let own = moved-list (λ a b r. r.head) ctx tells p enum_scheme (λ it. []) (λ a b r. refl) m in
-      simp (tally-append, own, backing-moved xs ys (backings refl) m)
-  body-moved false false true union xs ys m backings inner =
+      simp (tally-append, own, backing-moved xs ys beside m)
+  body-moved flags_body xs ys m beside =
       moved-list (λ a b r. r.head) ctx tells p flags_scheme (λ it. []) (λ a b r. refl) m
-  body-moved false false false true xs ys m backings inner =
+  body-moved union_body xs ys m beside =
       moved-list
       (λ a b r. r.head)
       ctx
@@ -80,7 +81,7 @@ module _ {N P : Type 0} (ctx : ValidationContext N P) (tells : Tells ctx.same) (
       (λ it. only_if (is Kind.Variant it.head) (field_list_violations ctx it.rest))
       (λ a b r. rw r.head (only-alike (is Kind.Variant b.head) _ _ (field-list-moved a.rest b.rest r.fields)))
       m
-  body-moved false false false false xs ys m backings inner = ap (λ body. rule_tally p (newtype_violations ctx body)) (inner refl refl refl refl)
+  body-moved newtype_body xs ys m beside = ap (λ rs. rule_tally p (newtype_violations ctx rs)) beside
 
 -- the items of a body, or of its variants' fields, in any other order: every violation occurs equally often
 pub reordered-counts :

@@ -1,12 +1,13 @@
 -- The five bodies: rules 1 to 5 and 31 to 38 (`check_message_body`, `check_message`, `check_enum`, `check_flags`, `check_union`,
 -- `check_newtype`), and the full list.
-use Rattle.std.specs.Prelude.{ℕ, Bool, true, false, not, ◌&&◌, ◌||◌, ltb, eqb}
+use Rattle.std.specs.Prelude.{ℕ, Bool, true, false, not, ◌&&◌, ◌||◌, ltb}
 use mathlib.Core.List.{List, [], ◌∷◌, ◌++◌, flat_map}
 use Rattle.rules.specs.Words.{within, only_if, any_of, select, front, rest, member, look_up, Item, items}
 use Rattle.rules.specs.Kind
 use Rattle.rules.specs.Sub
 use Rattle.rules.specs.Record.{Rec, is}
 use Rattle.rules.specs.Context.{ValidationContext, declared_as}
+use Rattle.rules.specs.Head.{Body, message_body, enum_body, flags_body, union_body, newtype_body, body_of}
 use Rattle.rules.specs.Grammar.{starts_field_item, starts_item}
 use Rattle.rules.specs.Rule.{Found, found_if}
 use Rattle.rules.specs.Types.{type_violations}
@@ -188,24 +189,18 @@ module _ {N P : Type 0} (ctx : ValidationContext N P) where
       found_if 37 (is Kind.Named t && declared_as ctx Sub.Newtype t.name) t.place
       ++ found_if 38 (is Kind.Named t && declared_as ctx Sub.Config t.name) t.place
 
-  -- the violations of a body, by the sub of its head
-  unfoldable pub body_violations : ℕ → List (Rec N P) → List (Found P)
-  body_violations sub body =
-      elim (eqb sub Sub.MessageHead) [
-        | true ↦ field_list_violations body
-        | false ↦ elim (eqb sub Sub.EnumHead) [
-          | true ↦ enum_violations body
-          | false ↦ elim (eqb sub Sub.FlagsHead) [
-            | true ↦ flags_violations body
-            | false ↦ elim (eqb sub Sub.UnionHead) [ true ↦ union_violations body | false ↦ newtype_violations body ]
-          ]
-        ]
-      ]
+  -- the violations of the records of a body
+  unfoldable pub body_violations : Body → List (Rec N P) → List (Found P)
+  body_violations message_body rs = field_list_violations rs
+  body_violations enum_body rs = enum_violations rs
+  body_violations flags_body rs = flags_violations rs
+  body_violations union_body rs = union_violations rs
+  body_violations newtype_body rs = newtype_violations rs
 
   -- the violations of the declaration that begins at the first of the records
   abbrev pub declaration_violations : List (Rec N P) → List (Found P)
   declaration_violations [] = []
-  declaration_violations (h ∷ body) = body_violations h.sub body
+  declaration_violations (h ∷ rs) = body_violations (body_of h.sub) rs
 
   -- the violations of a sheet's records: those of what begins at its head
   unfoldable pub violations_of : List (Rec N P) → List (Found P)

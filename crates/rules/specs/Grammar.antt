@@ -1,11 +1,11 @@
 -- Which record may follow those before: "any 1, 2, 3; one 10; its body; the end". A machine: each state says whether the sheet may end
 -- there, and takes the next record to a state, or finds it at fault by row 6 or row 7.
-use Rattle.std.specs.Prelude.{ℕ, suc, Bool, true, false, not, ◌&&◌, List, [], ◌∷◌, ◌++◌, map, ltb, eqb}
+use Rattle.std.specs.Prelude.{ℕ, suc, Bool, true, false, not, ◌&&◌, List, [], ◌∷◌, ◌++◌, map, ltb}
 use Rattle.rules.specs.Words.{within}
 use Rattle.rules.specs.Kind
 use Rattle.rules.specs.Kind.{Part, type, condition, operand}
-use Rattle.rules.specs.Sub
 use Rattle.rules.specs.Record.{Rec, is, is_renaming}
+use Rattle.rules.specs.Head.{Body, message_body, enum_body, flags_body, union_body, newtype_body, body_of}
 
 -- a step of the machine: to a state, or a fault by the number of its row
 pub data Step (S : Type 0) : Type 0 where
@@ -96,19 +96,17 @@ abbrev pub backing_may_come : EnumState → Bool
 backing_may_come unbacked = true
 backing_may_come items = false
 
--- the body that a head opens
+-- before the first record of a body
+abbrev pub body_start : Body → State
+body_start message_body = message between
+body_start enum_body = enum unbacked
+body_start flags_body = flags
+body_start union_body = union outside
+body_start newtype_body = newtype type_due
+
+-- behind a head of that sub
 unfoldable pub opened : ℕ → State
-opened sub =
-    elim (eqb sub Sub.MessageHead) [
-      | true ↦ message between
-      | false ↦ elim (eqb sub Sub.EnumHead) [
-        | true ↦ enum unbacked
-        | false ↦ elim (eqb sub Sub.FlagsHead) [
-          | true ↦ flags
-          | false ↦ elim (eqb sub Sub.UnionHead) [ true ↦ union outside | false ↦ newtype type_due ]
-        ]
-      ]
-    ]
+opened sub = body_start (body_of sub)
 
 -- before the first record
 abbrev pub start : State

@@ -2,10 +2,10 @@
 -- added items" mean.
 use Rattle.std.specs.Prelude.{ℕ, ◌+◌, ◌≡◌, Bool, true, false, not, ◌&&◌, List, [], ◌∷◌, map, length, eqb}
 use Rattle.rules.specs.declared.violation.Violation.{Violation}
-use Rattle.rules.specs.Words.{first_is, select, front, rest, member, Item, items}
+use Rattle.rules.specs.Words.{select, front, rest, member, Item, items}
 use Rattle.rules.specs.Kind
-use Rattle.rules.specs.Sub
 use Rattle.rules.specs.Record.{Rec, is}
+use Rattle.rules.specs.Head.{Body, message_body, union_body, newtype_body, body_of}
 use Rattle.rules.specs.Grammar.{starts_field_item, starts_item}
 use Rattle.rules.specs.Rule.{OrdinalDuplicate, OrdinalReusedAfterRemoved}
 use Rattle.rules.specs.Bodies.{field_items, slots, used_ordinals, retired_ordinals}
@@ -25,22 +25,28 @@ module _ {A : Type 0} where
     new : {b : A} {xs ys : List A} → Added R xs ys → Added R xs (b ∷ ys)
 
 module _ {N P : Type 0} where
-  -- the head of a sheet has that sub
-  abbrev pub has_head : ℕ → List (Rec N P) → Bool
-  has_head sub rs = first_is (λ h. eqb h.sub sub) (rest (λ r. not (is Kind.Head r)) rs)
-
   -- "An item is a 11 or 14 with all that belongs to it, or a 12, 13 or 15; a backing is none. A union body's items are its 14s and 15s":
-  -- the record begins an item of the sheet's body
-  abbrev pub starts_item_of : List (Rec N P) → Rec N P → Bool
-  starts_item_of rs r = elim (has_head Sub.MessageHead rs) [ true ↦ starts_field_item r | false ↦ starts_item r ]
+  -- the record begins an item of such a body
+  abbrev pub starts_in : Body → Rec N P → Bool
+  starts_in message_body r = starts_field_item r
+  starts_in body r = starts_item r
+
+  -- the body of the declaration that begins at the first of the records; where there is none, a newtype's, which has no items
+  abbrev pub first_body : List (Rec N P) → Body
+  first_body [] = newtype_body
+  first_body (h ∷ rs) = body_of h.sub
+
+  -- the body of a sheet
+  abbrev pub sheet_body : List (Rec N P) → Body
+  sheet_body rs = first_body (rest (λ r. not (is Kind.Head r)) rs)
 
   -- what stands before the items: the context, the head and a backing
   unfoldable pub lead_of : List (Rec N P) → List (Rec N P)
-  lead_of rs = front (λ r. not (starts_item_of rs r)) rs
+  lead_of rs = front (λ r. not (starts_in (sheet_body rs) r)) rs
 
   -- the items of the body
   unfoldable pub items_of : List (Rec N P) → List (Item (Rec N P))
-  items_of rs = items (starts_item_of rs) rs
+  items_of rs = items (starts_in (sheet_body rs)) rs
 
   -- "a variant's 11, 12, 13 are the items of that variant's fields": what stands before them in an item
   abbrev pub field_lead : Item (Rec N P) → List (Rec N P)
@@ -69,16 +75,15 @@ module _ {N P : Type 0} where
     pub lead : lead_of rs ≡ lead_of rs'
     pub added : Added FieldsAdded (items_of rs) (items_of rs')
 
-  -- "A field list is a message body or one variant's fields"
+  -- "A field list is a message body or one variant's fields": those of a body with such items
+  abbrev pub field_lists_in : Body → List (Item (Rec N P)) → List (List (Item (Rec N P)))
+  field_lists_in message_body its = its ∷ []
+  field_lists_in union_body its = map (λ it. field_items it.rest) (select (λ it. is Kind.Variant it.head) its)
+  field_lists_in body its = []
+
+  -- the field lists of a sheet
   unfoldable pub field_lists : List (Rec N P) → List (List (Item (Rec N P)))
-  field_lists rs =
-      elim (has_head Sub.MessageHead rs) [
-        | true ↦ items_of rs ∷ []
-        | false ↦ elim (has_head Sub.UnionHead rs) [
-          | true ↦ map (λ it. field_items it.rest) (select (λ it. is Kind.Variant it.head) (items_of rs))
-          | false ↦ []
-        ]
-      ]
+  field_lists rs = field_lists_in (sheet_body rs) (items_of rs)
 
   -- "its untombstoned ordinals are those of its fields that none of its 12s has"
   unfoldable pub untombstoned : List (Item (Rec N P)) → List ℕ
