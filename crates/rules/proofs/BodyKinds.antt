@@ -12,7 +12,8 @@ use Rattle.rules.specs.Kind
 use Rattle.rules.specs.Record.{Rec, is}
 use Rattle.rules.specs.Head.{Body, message_body, enum_body, flags_body, union_body, newtype_body, body_of}
 use Rattle.rules.specs.Grammar.{Step, to, fault, FieldListState, between, UnionState, outside, EnumState, unbacked, TypeState, type_due, field_list_done, union_done, opened, step, type_step, field_list_step, enum_step, union_step, starts_field_item, starts_item, start}
-use Rattle.rules.proofs.Lists.{all_of, nil-of, Each, each_of, items-each}
+use Rattle.rules.proofs.Every.{Every}
+use Rattle.rules.proofs.Lists.{all_of, nil-of, every-passed, items-begin}
 use Rattle.rules.proofs.Machine.{guarded-to, reads, reads_first, reads-kinds}
 use Rattle.rules.proofs.Taken.{within-true, outside-is, field_list-range, is_type_due, type-type, field_list-kind, enum_kind, union-kind}
 use Rattle.rules.proofs.Accepted.{checked, checked-to, Parts}
@@ -63,7 +64,7 @@ module _ {N P : Type 0} where
   pub record UnionBody (rs : List (Rec N P)) : Type 0 where
     pub begins : front (λ r. not (starts_item r)) rs ≡ []
     pub kinds : any_of (is Kind.Backing) rs ≡ false
-    pub items : Each UnionItem (items starts_item rs)
+    pub items : Every UnionItem (items starts_item rs)
 
   no-records : FieldList []
   unfolding any_of front
@@ -88,9 +89,9 @@ module _ {N P : Type 0} where
       record {
         begins = reads-begins union_step union_done starts_item outside (λ r e. rw (e, union_step)) rs h;
         kinds = reads-kinds (checked union_step) union_done (λ s. Unit {0}) (is Kind.Backing) kind outside rs tt h;
-        items = each_of union_item_reads (λ it r k. union-item-of it r)
+        items = every-passed union_item_reads (λ it r k. union-item-of it r)
             (items-read (reads (checked union_step) union_done outside) union_item_reads rs (union-items outside rs) h)
-            (items-each starts_item rs);
+            (items-begin starts_item rs);
       }
     where
       kind : (s : UnionState) (r : Rec N P) (t : UnionState) → Unit {0} → checked union_step s r ≡ to t
@@ -106,15 +107,15 @@ module _ {N P : Type 0} where
   -- an enum has variants, tombstones and a backing, and its items are heads alone
   pub record EnumBody (rs : List (Rec N P)) : Type 0 where
     pub kinds : any_of (λ r. not (within Kind.Variant Kind.Backing r.kind)) rs ≡ false
-    pub items : Each (λ it. it.rest ≡ []) (items starts_item rs)
+    pub items : Every (λ it. it.rest ≡ []) (items starts_item rs)
 
   -- flags have bits and tombstones, each alone
   pub record FlagsBody (rs : List (Rec N P)) : Type 0 where
     pub kinds : any_of (λ r. not (starts_item r)) rs ≡ false
-    pub items : Each (λ it. it.rest ≡ []) (items starts_item rs)
+    pub items : Every (λ it. it.rest ≡ []) (items starts_item rs)
 
-  bare-each : (rs : List (Rec N P)) → all_of bare_reads (items starts_item rs) ≡ true → Each (λ it. it.rest ≡ []) (items starts_item rs)
-  bare-each rs h = each_of bare_reads (λ it b k. nil-of it.rest (and_parts (sound it.head) _ b).1) h (items-each starts_item rs)
+  bare-each : (rs : List (Rec N P)) → all_of bare_reads (items starts_item rs) ≡ true → Every (λ it. it.rest ≡ []) (items starts_item rs)
+  bare-each rs h = every-passed bare_reads (λ it b k. nil-of it.rest (and_parts (sound it.head) _ b).1) h (items-begin starts_item rs)
 
   enum-body : (rs : List (Rec N P)) → reads (checked enum_step) always unbacked rs ≡ true → EnumBody rs
   enum-body rs h =

@@ -13,7 +13,8 @@ use Rattle.rules.specs.Head.{Body, message_body, enum_body, flags_body, union_bo
 use Rattle.rules.specs.Grammar.{Step, to, fault, lifted, guarded, State, message, enum, flags, union, newtype, FieldListState, between, field_item, UnionState, outside, variant, union_item, EnumState, unbacked, items as past, TypeState, type_due, none_due, done, field_list_done, union_done, body_start, step, type_step, field_list_step, enum_step, union_step, starts_field_item, starts_item}
 use Rattle.rules.specs.Refusals.{own_fault}
 use Rattle.rules.specs.Items.{starts_in}
-use Rattle.rules.proofs.Lists.{all_of, all_of-same, is_nil, none_of-false, each_map, items-each}
+use Rattle.rules.proofs.Every.{every-as}
+use Rattle.rules.proofs.Lists.{all_of, all_of-same, is_nil, none_of-false, items-begin}
 use Rattle.rules.proofs.Machine.{reads, reads_on, reads-items, reads-lifted}
 use Rattle.rules.proofs.Taken.{within-true, type-kind}
 use Rattle.rules.proofs.Accepted.{checked, checked-to}
@@ -117,8 +118,8 @@ module _ {N P : Type 0} where
       checked-items step always starts_item (λ r. after) begins s rs
       ∙ ap (λ b. reads (checked step) always s (front (λ r. not (starts_item r)) rs) && b)
       (all_of-same
-      (each_map (λ it k. ap (λ b. sound it.head && b) (reads_nothing step always starts_item after refl ends it.rest k.1))
-      (items-each starts_item rs)))
+      (every-as (λ it k. ap (λ b. sound it.head && b) (reads_nothing step always starts_item after refl ends it.rest k.1))
+      (items-begin starts_item rs)))
 
   pub enum-items : (s : EnumState) (rs : List (Rec N P))
       → reads (checked enum_step) always s rs
@@ -166,7 +167,7 @@ module _ {N P : Type 0} where
   union-items s rs =
       checked-items union_step union_done starts_item union_item (λ u r e. rw (e, union_step)) s rs
       ∙ ap (λ b. reads (checked union_step) union_done s (front (λ r. not (starts_item r)) rs) && b)
-      (all_of-same (each_map (λ it k. ap (λ b. sound it.head && b) (union-item it k.1)) (items-each starts_item rs)))
+      (all_of-same (every-as (λ it k. ap (λ b. sound it.head && b) (union-item it k.1)) (items-begin starts_item rs)))
 
   -- the body of a head is read by its own machine
   lifted-reads : {S : Type 0} (inner : S → Rec N P → Step S) (inner_done : S → Bool) (f : S → State)

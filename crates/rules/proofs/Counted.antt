@@ -22,7 +22,8 @@ use Rattle.rules.specs.Bodies.{body_items, body_violations, declaration_violatio
 use Rattle.rules.specs.Answer.{found_in, full_list, is_accepted}
 use Rattle.rules.specs.Items.{starts_in, field_lists_in, sum_of, distinct, untombstoned, fields_in, field_lists, distinct_untombstoned, occurrences, is_in_class}
 use Rattle.rules.proofs.Joined.{select-append}
-use Rattle.rules.proofs.Lists.{none_of-weaker, Each, each_nil, each-cons}
+use Rattle.rules.proofs.Every.{Every, every-nil, every-cons}
+use Rattle.rules.proofs.Lists.{none_of-weaker}
 use Rattle.rules.proofs.Taken.{within-true, outside-is}
 use Rattle.rules.proofs.Accepted.{Parts, accepted-parts}
 use Rattle.rules.proofs.Lead.{from-head, body-from-head, items-from-head}
@@ -122,10 +123,10 @@ module _ {N P : Type 0} (ctx : ValidationContext N P) where
   abbrev VariantsCounted : List (Item (Rec N P)) → Type 0
   VariantsCounted its = sum_of (map (λ it. fields_in it.rest) its) ≡ distinct_in (field_lists_in union_body its) + sum_of (map (variant_repeats ctx) its)
 
-  variants-counted : {its : List (Item (Rec N P))} → Each UnionItem its → VariantsCounted its
+  variants-counted : {its : List (Item (Rec N P))} → Every UnionItem its → VariantsCounted its
   unfolding sum_of select
-  variants-counted each_nil = refl
-  variants-counted (each-cons {x = it} {xs = its} u us) = go (is Kind.Variant it.head) refl (variants-counted us)
+  variants-counted every-nil = refl
+  variants-counted (every-cons {x = it} {xs = its} u us) = go (is Kind.Variant it.head) refl (variants-counted us)
     where
       go : (b : Bool) → is Kind.Variant it.head ≡ b → VariantsCounted its → VariantsCounted (it ∷ its)
       go true e later = rw (e, select) (omega (arith, list_counted ctx it.rest))

@@ -7,12 +7,13 @@ use Rattle.rules.specs.Record.{Rec}
 use Rattle.rules.specs.Grammar.{starts_field_item}
 use Rattle.rules.specs.Bodies.{field_items}
 use Rattle.rules.specs.Items.{field_lead}
-use Rattle.rules.proofs.Lists.{Each, each_nil, each-cons, each_map, items-each, front-past}
+use Rattle.rules.proofs.Every.{Every, every-nil, every-cons, every-as}
+use Rattle.rules.proofs.Lists.{items-begin, front-past}
 
 module _ {A : Type 0} where
-  map_each : (f : A → A) {xs : List A} → Each (λ x. f x ≡ x) xs → map f xs ≡ xs
-  map_each f each_nil = refl
-  map_each f (each-cons e es) = ap₂ ◌∷◌ e (map_each f es)
+  map_same : (f : A → A) {xs : List A} → Every (λ x. f x ≡ x) xs → map f xs ≡ xs
+  map_same f every-nil = refl
+  map_same f (every-cons e es) = ap₂ ◌∷◌ e (map_same f es)
 
   -- a list in which no piece begins stands before the first whole
   pub front-whole : (start : A → Bool) (xs : List A) → any_of start xs ≡ false → front (λ x. not (start x)) xs ≡ xs
@@ -26,5 +27,5 @@ module _ {N P : Type 0} where
 
   pub field_items-cut : (xs : List (Rec N P)) → map cut_item (field_items xs) ≡ field_items xs
   field_items-cut xs =
-      map_each cut_item
-      (each_map (λ it k. λ i. record { head = it.head; rest = front-whole starts_field_item it.rest k.1 i }) (items-each starts_field_item xs))
+      map_same cut_item
+      (every-as (λ it k. λ i. record { head = it.head; rest = front-whole starts_field_item it.rest k.1 i }) (items-begin starts_field_item xs))

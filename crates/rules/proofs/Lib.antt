@@ -7,6 +7,7 @@ pub mod Printed
 pub mod Records
 -- What accepted sheets are made of.
 pub mod Joined
+pub mod Every
 pub mod Lists
 pub mod Machine
 pub mod Taken
@@ -42,7 +43,6 @@ pub mod Bound
 pub mod Limits
 pub mod Classes
 -- Encoding, chains, and the bytes that are not used.
-pub mod Every
 pub mod Places
 pub mod Encoding
 pub mod Chains

@@ -4,6 +4,7 @@ use mathlib.Core.Bool.{Bool, true, false, not, ◌&&◌, ◌||◌, true≢false,
 use mathlib.Core.List.{List, [], ◌∷◌, ◌++◌}
 use Rattle.std.proofs.lemmas.Bool.{and_parts, or_parts}
 use Rattle.rules.specs.Words.{any_of, select, only_if, front, rest, items}
+use Rattle.rules.proofs.Every.{Every, every-nil, every-cons}
 
 -- three tests in another order
 pub or_swap : (a b c : Bool) → (a || (b || c)) ≡ (b || (a || c))
@@ -81,25 +82,18 @@ module _ {A : Type 0} where
       go true e ih = rw (e, front, rest) (ap (λ zs. x ∷ zs) ih)
       go false e ih = rw (e, front, rest)
 
-  -- the property holds of each element
-  pub data Each (P : A → Type 0) : List A → Type 0 where
-    each_nil : Each P []
-    each-cons : {x : A} {xs : List A} → P x → Each P xs → Each P (x ∷ xs)
-
-  pub each_of : {P Q : A → Type 0} (p : A → Bool) → ((x : A) → p x ≡ true → P x → Q x) → {xs : List A}
-      → all_of p xs ≡ true → Each P xs → Each Q xs
+  -- what passes a test may be known of every element
+  pub every-passed : {P Q : A → Type 0} (p : A → Bool) → ((x : A) → p x ≡ true → P x → Q x) → {xs : List A}
+      → all_of p xs ≡ true → Every P xs → Every Q xs
   unfolding all_of
-  each_of p f h each_nil = each_nil
-  each_of p f h (each-cons {x} {xs} k ks) = each-cons (f x (and_parts (p x) _ h).0 k) (each_of p f (and_parts (p x) _ h).1 ks)
+  every-passed p f h every-nil = every-nil
+  every-passed p f h (every-cons {x} {xs} k ks) =
+      every-cons (f x (and_parts (p x) _ h).0 k) (every-passed p f (and_parts (p x) _ h).1 ks)
 
-  pub all_of-same : {p q : A → Bool} {xs : List A} → Each (λ x. p x ≡ q x) xs → all_of p xs ≡ all_of q xs
+  pub all_of-same : {p q : A → Bool} {xs : List A} → Every (λ x. p x ≡ q x) xs → all_of p xs ≡ all_of q xs
   unfolding all_of
-  all_of-same each_nil = refl
-  all_of-same (each-cons e es) = rw (e, all_of-same es)
-
-  pub each_map : {P Q : A → Type 0} → ((x : A) → P x → Q x) → {xs : List A} → Each P xs → Each Q xs
-  each_map f each_nil = each_nil
-  each_map f (each-cons {x} k ks) = each-cons (f x k) (each_map f ks)
+  all_of-same every-nil = refl
+  all_of-same (every-cons e es) = rw (e, all_of-same es)
 
   -- no element of a front passes the test that ends it
   front-has : (start : A → Bool) (xs : List A) → any_of start (front (λ x. not (start x)) xs) ≡ false
@@ -114,15 +108,15 @@ module _ {A : Type 0} where
 
 module _ {A : Type 0} where
   -- a piece begins where the test passes, and only there
-  pub items-each : (start : A → Bool) (xs : List A)
-      → Each (λ it. (start it.head ≡ true) × (any_of start it.rest ≡ false)) (items start xs)
+  pub items-begin : (start : A → Bool) (xs : List A)
+      → Every (λ it. (start it.head ≡ true) × (any_of start it.rest ≡ false)) (items start xs)
   unfolding items
-  items-each start [] = each_nil
-  items-each start (x ∷ xs) = go (start x) refl (items-each start xs)
+  items-begin start [] = every-nil
+  items-begin start (x ∷ xs) = go (start x) refl (items-begin start xs)
     where
-      go : (b : Bool) → start x ≡ b → Each (λ it. (start it.head ≡ true) × (any_of start it.rest ≡ false)) (items start xs)
-          → Each (λ it. (start it.head ≡ true) × (any_of start it.rest ≡ false)) (items start (x ∷ xs))
-      go true e ih = rw (e, items) (each-cons (e, front-has start xs) ih)
+      go : (b : Bool) → start x ≡ b → Every (λ it. (start it.head ≡ true) × (any_of start it.rest ≡ false)) (items start xs)
+          → Every (λ it. (start it.head ≡ true) × (any_of start it.rest ≡ false)) (items start (x ∷ xs))
+      go true e ih = rw (e, items) (every-cons (e, front-has start xs) ih)
       go false e ih = rw (e, items) ih
 
   -- where no element passes a test, none of the front does

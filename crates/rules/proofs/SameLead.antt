@@ -13,7 +13,8 @@ use Rattle.rules.specs.Record.{Rec, is}
 use Rattle.rules.specs.Head.{Body, message_body, enum_body, flags_body, union_body, newtype_body, body_of}
 use Rattle.rules.specs.Grammar.{start, starts_item}
 use Rattle.rules.specs.Items.{starts_in, lead_of, items_of}
-use Rattle.rules.proofs.Lists.{Each, each-cons, none_of-weaker}
+use Rattle.rules.proofs.Every.{Every, every-cons}
+use Rattle.rules.proofs.Lists.{none_of-weaker}
 use Rattle.rules.proofs.Taken.{within-true, within-false}
 use Rattle.rules.proofs.Accepted.{Parts}
 use Rattle.rules.proofs.Lead.{from-head, accepted-rest, accepted-lead, accepted-items}
@@ -23,16 +24,16 @@ use Rattle.rules.proofs.Cut.{front-whole}
 module _ {A : Type 0} (starts p : A → Bool) (apart : (x : A) → starts x ≡ true → p x ≡ false) where
   -- where each piece is its head alone, what no head is stands before the pieces
   select-lead :
-      (xs : List A) → Each (λ it. it.rest ≡ []) (items starts xs) → select p xs ≡ select p (front (λ x. not (starts x)) xs)
+      (xs : List A) → Every (λ it. it.rest ≡ []) (items starts xs) → select p xs ≡ select p (front (λ x. not (starts x)) xs)
   unfolding items front select
   select-lead [] alone = refl
   select-lead (x ∷ xs) alone = by-test (starts x) refl (select-lead xs)
     where
       Later : Type 0
-      Later = Each (λ it. it.rest ≡ []) (items starts xs) → select p xs ≡ select p (front (λ y. not (starts y)) xs)
+      Later = Every (λ it. it.rest ≡ []) (items starts xs) → select p xs ≡ select p (front (λ y. not (starts y)) xs)
 
-      past : Later → Each (λ it. it.rest ≡ []) (record { head = x; rest = front (λ y. not (starts y)) xs } ∷ items starts xs) → select p xs ≡ []
-      past later (each-cons e es) = later es ∙ ap (select p) e
+      past : Later → Every (λ it. it.rest ≡ []) (record { head = x; rest = front (λ y. not (starts y)) xs } ∷ items starts xs) → select p xs ≡ []
+      past later (every-cons e es) = later es ∙ ap (select p) e
 
       by-test : (b : Bool) → starts x ≡ b → Later → select p (x ∷ xs) ≡ select p (front (λ y. not (starts y)) (x ∷ xs))
       by-test true e later = rw (e, front, apart x e) (past later (rw (e, items) at alone))
