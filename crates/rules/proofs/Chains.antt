@@ -6,18 +6,18 @@ use native.Mathlib.Numerals.{add-one}
 use native.Mathlib.Decide.{ℕ_discrete, dec_le}
 use native.Mathlib.Omega.{arith}
 use mathlib.Core.Path.{◌≡◌, refl, sym, ap, ◌∙◌}
-use mathlib.Core.Bool.{Bool, true, false, ◌&&◌, ◌||◌}
+use mathlib.Core.Bool.{Bool, true, false, ◌&&◌}
 use mathlib.Core.List.{List, [], ◌∷◌, ◌++◌}
 use mathlib.Core.Option.{Option, some, none}
 use lib.ListN.{length}
-use lib.Dec.{ltb, eqb}
+use lib.Dec.{ltb}
 use borrow.Author.Tests.{ltb-true, ltb-false, eqb-true}
-use Rattle.rules.specs.Words.{within, only_if, select, same_bytes}
+use Rattle.rules.specs.Words.{only_if, select, same_bytes}
 use Rattle.rules.specs.Kind
 use Rattle.rules.specs.Sub
 use Rattle.rules.specs.Record.{Rec, is}
-use Rattle.rules.specs.Context.{Declared, ValidationContext, declared, context_of, inner_of, declared_as, behind, chain_end, never_ends}
-use Rattle.rules.specs.Types.{is_invalid_map_key}
+use Rattle.rules.specs.Context.{Declared, ValidationContext, declared, context_of, inner_of, declared_as, inner_type, behind, chain_end, never_ends}
+use Rattle.rules.specs.Types.{is_invalid_end, is_invalid_map_key}
 
 module _ {A : Type 0} where
   -- there is one
@@ -270,18 +270,9 @@ module _ {N P : Type 0} where
         is_valid_field_name = ctx.is_valid_field_name;
       }
 
-  -- the chain's end is a bad key
-  bad_end : ValidationContext N P → Rec N P → Bool
-  bad_end ctx t =
-      is Kind.Primitive t && (within Sub.F32 Sub.F64 t.sub || eqb t.sub Sub.Void)
-      || within Kind.Optional Kind.Array t.kind
-      || within Kind.Set Kind.Result t.kind
-      || is Kind.Named t
-      && (declared_as ctx Sub.Message t.name || declared_as ctx Sub.Union t.name || declared_as ctx Sub.Config t.name)
-
   -- what a bad key is under a bound
-  invalid-bounded : (m : ℕ) (ctx : ValidationContext N P) (r : Rec N P) → is_invalid_map_key (bounded m ctx) r ≡ bad_end ctx (chain_end ctx m r)
-  unfolding is_invalid_map_key bad_end chain_end behind
+  invalid-bounded : (m : ℕ) (ctx : ValidationContext N P) (r : Rec N P) → is_invalid_map_key (bounded m ctx) r ≡ is_invalid_end ctx (chain_end ctx m r)
+  unfolding is_invalid_map_key is_invalid_end chain_end behind
   invalid-bounded m ctx r = refl
 
   -- where a chain ends, its end is the same under any greater bound
@@ -293,11 +284,6 @@ module _ {P : Type 0} (rs : List (Rec (List ℕ) P)) where
   abbrev ctx : ValidationContext (List ℕ) P
   ctx = context_of rs
 
-  -- the inner type of what a name is declared as
-  abbrev inner_type : Option (Declared (List ℕ) P) → Option (Rec (List ℕ) P)
-  inner_type none = none
-  inner_type (some d) = d.inner
-
   -- a step goes through a declared name
   step-declared : (r : Rec (List ℕ) P) → is_some (behind ctx r) ≡ true
       → (is_some (declared rs r.name) ≡ true) × (behind ctx r ≡ inner_type (declared rs r.name))
@@ -305,9 +291,9 @@ module _ {P : Type 0} (rs : List (Rec (List ℕ) P)) where
   step-declared r = go (is Kind.Named r) (declared rs r.name)
     where
       go : (b : Bool) (o : Option (Declared (List ℕ) P))
-          → is_some {A = Rec (List ℕ) P} (elim b [ true ↦ elim o [ none ↦ none | some d ↦ d.inner ] | false ↦ none ]) ≡ true
+          → is_some {A = Rec (List ℕ) P} (elim b [ true ↦ inner_type o | false ↦ none ]) ≡ true
           → (is_some o ≡ true)
-          × (◌≡◌ {A = Option (Rec (List ℕ) P)} (elim b [ true ↦ elim o [ none ↦ none | some d ↦ d.inner ] | false ↦ none ]) (inner_type o))
+          × (◌≡◌ {A = Option (Rec (List ℕ) P)} (elim b [ true ↦ inner_type o | false ↦ none ]) (inner_type o))
       go true none h = (h, refl)
       go true (some d) h = (refl, refl)
       go false o h = (cc, cc)
@@ -337,13 +323,13 @@ module _ {P : Type 0} (rs : List (Rec (List ℕ) P)) where
       (omega arith)
 
   -- a type from which a chain goes on is no bad key
-  on-good : (t : Rec (List ℕ) P) → is_some (behind ctx t) ≡ true → bad_end ctx t ≡ false
-  unfolding behind context_of bad_end
+  on-good : (t : Rec (List ℕ) P) → is_some (behind ctx t) ≡ true → is_invalid_end ctx t ≡ false
+  unfolding behind context_of is_invalid_end
   on-good t = go (is Kind.Named t) refl (declared rs t.name) refl (only-renaming rs t.name)
     where
       go : (b : Bool) → is Kind.Named t ≡ b → (o : Option (Declared (List ℕ) P)) → declared rs t.name ≡ o → OnlyRenaming o
-          → is_some {A = Rec (List ℕ) P} (elim b [ true ↦ elim o [ none ↦ none | some d ↦ d.inner ] | false ↦ none ]) ≡ true
-          → bad_end ctx t ≡ false
+          → is_some {A = Rec (List ℕ) P} (elim b [ true ↦ inner_type o | false ↦ none ]) ≡ true
+          → is_invalid_end ctx t ≡ false
       go true e none e' n h = cc
       go true e (some d) e' n h = rw (eqb-true t.kind Kind.Named e, e', declared_as, eqb-true d.sub Sub.Newtype (n h))
       go false e o e' n h = cc
@@ -356,9 +342,9 @@ module _ {P : Type 0} (rs : List (Rec (List ℕ) P)) where
       d : ℕ
       d = ctx.declarations
 
-      good : never_ends ctx r ≡ true → (n : ℕ) → bad_end ctx (chain_end ctx n r) ≡ false
+      good : never_ends ctx r ≡ true → (n : ℕ) → is_invalid_end ctx (chain_end ctx n r) ≡ false
       good e n = on-good (chain_end ctx n r) (never_ends_lem r e n)
 
-      go : (b : Bool) → never_ends ctx r ≡ b → bad_end ctx (chain_end ctx m r) ≡ bad_end ctx (chain_end ctx d r)
+      go : (b : Bool) → never_ends ctx r ≡ b → is_invalid_end ctx (chain_end ctx m r) ≡ is_invalid_end ctx (chain_end ctx d r)
       go true e = good e m ∙ sym (good e d)
-      go false e = ap (bad_end ctx) (chain-bound ctx r e m le)
+      go false e = ap (is_invalid_end ctx) (chain-bound ctx r e m le)

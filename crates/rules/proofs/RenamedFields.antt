@@ -18,7 +18,7 @@ use Rattle.rules.specs.Context.{ValidationContext, declared_as, is_known_type, i
 use Rattle.rules.specs.Rule.{Found, found_if}
 use Rattle.rules.specs.Types.{is_text, is_varint_valid_type, is_zigzag_valid_type, is_delta_valid_type, is_limit_valid_type, is_limit_capped_type, is_numeric_type, is_collection_type}
 use Rattle.rules.specs.Annotations.{max_limit, is_word, limit_value_violations, has_reason, annotation_violations, combined_violations, duplicate_annotations, annotations_violations}
-use Rattle.rules.specs.Types.{is_invalid_map_key, key_violations, element_violations, bit_name_violations, own_type_violations, types_violations, checked_parts}
+use Rattle.rules.specs.Types.{is_without_key, is_invalid_end, is_invalid_map_key, key_violations, element_violations, bit_name_violations, own_type_violations, types_violations, checked_parts}
 use Rattle.rules.specs.Conditions.{Literals, length_literals, literals_of, operands_of, operand_violations, own_condition_violations, condition_violations}
 use Rattle.rules.specs.Bodies.{in_annotations, in_type, type_part, field_violations}
 use Rattle.rules.proofs.Every.{Every, EveryOf, every-nil, every-cons, every_front, every_rest, every_take, every-items-as, every-as, every-front-as}
@@ -85,7 +85,7 @@ module _ {M N P : Type 0} {g : M → N} {Good Worded Spelled : M → Type 0} {ct
 
   -- types
   key-renamed : (r : Rec M P) → WellNamed Good Worded Spelled r → is_invalid_map_key ctx (renamed g r) ≡ is_invalid_map_key ctx' r
-  unfolding is_invalid_map_key
+  unfolding is_invalid_map_key is_invalid_end
   key-renamed r w =
       let end = alike.end r w in
       let t : Rec M P = chain_end ctx' ctx'.declarations r in
@@ -94,9 +94,7 @@ module _ {M N P : Type 0} {g : M → N} {Good Worded Spelled : M → Type 0} {ct
       (λ i. bad
       || within Kind.Optional Kind.Array t.kind
       || within Kind.Set Kind.Result t.kind
-      || named-renamed alike t end.1
-      (λ n. declared_as ctx Sub.Message n || declared_as ctx Sub.Union n || declared_as ctx Sub.Config n)
-      (λ m. declared_as ctx' Sub.Message m || declared_as ctx' Sub.Union m || declared_as ctx' Sub.Config m)
+      || named-renamed alike t end.1 (is_without_key ctx) (is_without_key ctx')
       (λ m h j. as-renamed alike Sub.Message m h j || as-renamed alike Sub.Union m h j || as-renamed alike Sub.Config m h j) i)
 
   keys-renamed : {rs : List (Rec M P)} → Every (WellNamed Good Worded Spelled) rs → key_violations ctx (map (renamed g) rs) ≡ key_violations ctx' rs

@@ -105,6 +105,12 @@ module _ {P : Type 0} where
         is_valid_field_name = valid_field_name;
       }
 
+module _ {N P : Type 0} where
+  -- the type of what a name is declared as
+  abbrev pub inner_type : Option (Declared N P) → Option (Rec N P)
+  inner_type none = none
+  inner_type (some d) = d.inner
+
 module _ {N P : Type 0} (ctx : ValidationContext N P) where
   -- the name is declared with that sub
   abbrev pub declared_as : ℕ → N → Bool
@@ -122,11 +128,7 @@ module _ {N P : Type 0} (ctx : ValidationContext N P) where
 
   -- the type behind a type that names a newtype
   unfoldable pub behind : Rec N P → Option (Rec N P)
-  behind r =
-      elim (is Kind.Named r) [
-        | true ↦ elim (ctx.decl_map r.name) [ none ↦ none | some d ↦ d.inner ]
-        | false ↦ none
-      ]
+  behind r = elim (is Kind.Named r) [ true ↦ inner_type (ctx.decl_map r.name) | false ↦ none ]
 
   -- the type at the end of the chain of named newtypes, or the one after n steps where it has not ended by then
   unfoldable pub chain_end : ℕ → Rec N P → Rec N P

@@ -57,15 +57,21 @@ module _ {N P : Type 0} where
       first_is (λ t. is_text t || within Kind.Array Kind.FixedArray t.kind) (rest (is Kind.Optional) ty)
 
 module _ {N P : Type 0} (ctx : ValidationContext N P) where
-  -- bad keys: "F32, F64, Void, optional, array, set, map, result, declared message, union or config, a newtype of a bad inner type"
-  unfoldable pub is_invalid_map_key : Rec N P → Bool
-  is_invalid_map_key r =
-      let t = chain_end ctx ctx.declarations r in
+  -- a declared message, union or config
+  abbrev pub is_without_key : N → Bool
+  is_without_key name = declared_as ctx Sub.Message name || declared_as ctx Sub.Union name || declared_as ctx Sub.Config name
+
+  -- bad keys: "F32, F64, Void, optional, array, set, map, result, declared message, union or config",
+  unfoldable pub is_invalid_end : Rec N P → Bool
+  is_invalid_end t =
       is Kind.Primitive t && (within Sub.F32 Sub.F64 t.sub || eqb t.sub Sub.Void)
       || within Kind.Optional Kind.Array t.kind
       || within Kind.Set Kind.Result t.kind
-      || is Kind.Named t
-      && (declared_as ctx Sub.Message t.name || declared_as ctx Sub.Union t.name || declared_as ctx Sub.Config t.name)
+      || is Kind.Named t && is_without_key t.name
+
+  -- "a newtype of a bad inner type"
+  unfoldable pub is_invalid_map_key : Rec N P → Bool
+  is_invalid_map_key r = is_invalid_end (chain_end ctx ctx.declarations r)
 
   -- rule 8 at a key, which is the first of the records
   abbrev pub key_violations : List (Rec N P) → List (Found P)

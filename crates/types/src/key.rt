@@ -1,10 +1,9 @@
 // Which types may be the key of a set or a map.
 ghost use Rattle.std.specs.Prelude.{◌≡◌};
-ghost use Rattle.rules.specs.Types.{is_invalid_map_key, key_violations};
+ghost use Rattle.rules.specs.Types.{is_without_key, is_invalid_end, is_invalid_map_key, key_violations};
 ghost use Rattle.diagnostic.specs.Violations.{Adds};
 ghost use Rattle.names.specs.View.{view_at};
 ghost use Rattle.names.specs.Known.{context_in, records_in};
-ghost use Rattle.types.specs.Key.{is_without_key, is_invalid_end};
 
 use crate::declared::is_declared_as;
 use diagnostic::Violations;
@@ -22,7 +21,7 @@ fn is_without_key(context: ValidationContext, i: usize) -> bool
 }
 
 // Whether type `i`, at the end of its chain, is a bad key.
-#[tactic(auto, unfolding(names::specs::View::view_at, crate::specs::Key::is_invalid_end))]
+#[tactic(auto, unfolding(names::specs::View::view_at, rules::specs::Types::is_invalid_end))]
 fn is_invalid_end(context: ValidationContext, i: usize) -> bool
     ensures { result ≡ is_invalid_end (context_in context.entry) (view_at context.entry.sheet.now i) }
 {
@@ -37,7 +36,7 @@ fn is_invalid_end(context: ValidationContext, i: usize) -> bool
 }
 
 // Whether type `i` is a bad key.
-#[tactic(auto, unfolding(names::specs::View::context_by, rules::specs::Types::is_invalid_map_key, crate::specs::Key::is_invalid_end))]
+#[tactic(auto, unfolding(names::specs::View::context_by, rules::specs::Types::is_invalid_map_key))]
 pub fn is_invalid_map_key(context: ValidationContext, i: usize) -> bool
     ensures { result ≡ is_invalid_map_key (context_in context.entry) (view_at context.entry.sheet.now i) }
 {
