@@ -1,16 +1,11 @@
 -- What the table says of a name's declaration is what the context says, and so is what stands behind a type.
-use Rattle.std.proofs.Common.{◌≡◌, ℕ, zero, suc, List, refl, ap, ne_eqb}
+use Rattle.std.proofs.Common.{◌≡◌, ℕ, zero, suc, List, refl, ne_eqb}
 use Rattle.std.specs.Prelude.{Some, None}
 use Rattle.std.proofs.Math.Option.{some, none}
 use Rattle.rules.specs.Kind
 use Rattle.rules.specs.Record.{record_bytes, kind_in, sub_in}
 use Rattle.rules.specs.Context.{behind}
-use Rattle.names.specs.View.{view_at, entry_of, declaration_part, target_part, declared_by, context_by}
-use Rattle.names.specs.Known.{index_at, at_place}
-
-target-at : (sheet : List ℕ) (n : ℕ) → elim n [ zero ↦ none | suc t ↦ some (view_at sheet t) ] ≡ at_place sheet (index_at n)
-target-at sheet zero = refl
-target-at sheet (suc n) = refl
+use Rattle.names.specs.View.{view_at, entry_of, declaration_part, target_part, index_at, at_place, declared_by, context_by}
 
 module _ (table sheet : List ℕ) (i : ℕ) where
   pub undeclared : entry_of declaration_part table i ≡ 0 → declared_by table sheet i ≡ none
@@ -20,8 +15,7 @@ module _ (table sheet : List ℕ) (i : ℕ) where
   pub declared-at : (d : ℕ) → entry_of declaration_part table i ≡ suc d →
       declared_by table sheet i ≡ some (record { sub = sub_in (record_bytes sheet d); inner = at_place sheet (index_at (entry_of target_part table i)) })
   unfolding declared_by
-  declared-at d h =
-      rw (declared_by, h) (ap (λ t. some (record { sub = sub_in (record_bytes sheet d); inner = t })) (target-at sheet (entry_of target_part table i)))
+  declared-at d h = rw (declared_by, h)
 
   -- the type behind the record: none where it names nothing, or nothing that is declared
   pub behind_other : (kind_in (record_bytes sheet i) ≡ Kind.Named → ⊥) → behind (context_by table sheet) (view_at sheet i) ≡ none

@@ -4,8 +4,7 @@ use Rattle.std.specs.Prelude.{Option, Some, None}
 use Rattle.rules.specs.declared.span.Span.{Span}
 use Rattle.rules.specs.Record.{Rec}
 use Rattle.rules.specs.Context.{ValidationContext, behind, chain_end}
-use Rattle.names.specs.View.{view_at}
-use Rattle.names.specs.Known.{at_place}
+use Rattle.names.specs.View.{view_at, at_place}
 
 module _ (ctx : ValidationContext ℕ Span) (sheet : List ℕ) (end : Rec ℕ Span) where
   -- the end is that of the chain from record `at` on, with that many steps left

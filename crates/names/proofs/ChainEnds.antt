@@ -10,8 +10,7 @@ use mathlib.Core.Option.{some}
 use Rattle.rules.specs.declared.span.Span.{Span}
 use Rattle.rules.specs.Context.{ValidationContext, behind, chain_end, never_ends}
 use Rattle.rules.proofs.Chains.{is_some, none-there}
-use Rattle.names.specs.View.{view_at, declarations_of, context_by}
-use Rattle.names.specs.Known.{at_place}
+use Rattle.names.specs.View.{view_at, at_place, declarations_of, context_by}
 use Rattle.names.specs.SameEnds.{SameEnds, Lasting, with_target}
 use Rattle.names.proofs.Shortened.{same-itself, same-through}
 use Rattle.names.proofs.Targeted.{target-same, target-lasting, rest_end}

@@ -32,9 +32,9 @@ use Rattle.rules.proofs.Renamed.{renamed, has_name_of, map_option, Holds, rename
 use Rattle.rules.proofs.RenamedBodies.{violations-renamed}
 use Rattle.names.specs.NameTable.{place_of, id_in, declaration_in, target_at, target_in, word_code, code_of, name_table, table_of}
 use Rattle.names.specs.Parts.{target_of}
-use Rattle.names.specs.View.{view_at, view_from, view_of, entry_of, id_part, declaration_part, import_part, target_part, code_part, declared_by, context_by}
+use Rattle.names.specs.View.{view_at, view_from, view_of, entry_of, id_part, declaration_part, import_part, target_part, code_part, index_at, at_place, declared_at, declared_by, context_by}
 use Rattle.names.specs.SameEnds.{sub_of, SameEnds, Lasting}
-use Rattle.names.proofs.Targeted.{inner_at, declared_at, undeclared-behind}
+use Rattle.names.proofs.Targeted.{undeclared-behind}
 use Rattle.names.proofs.CodeEntries.{code-word, code-blank, code-valid}
 use Rattle.names.proofs.FirstPlaces.{place-passes}
 use Rattle.names.proofs.ColumnEntries.{parts, entry_at, entry_past, wildcard-entry, declarations-entry}
@@ -215,19 +215,19 @@ module _ (sheet names : List ℕ) (room : length sheet ≤ 32768) (whole : lengt
   inner-at :
       (k : ℕ) →
       inner_of (record_at k).sub (drop (suc k) rs)
-      ≡ map_option (renamed (name_at sheet names)) (inner_at sheet (target_at (suc k) (record_at k ∷ drop (suc k) rs)))
+      ≡ map_option (renamed (name_at sheet names)) (at_place sheet (index_at (target_at (suc k) (record_at k ∷ drop (suc k) rs))))
   inner-at k = go (dec_lt (suc k) (length sheet / 32))
     where
       by-test :
           (b : Bool) → suc k < length sheet / 32 →
           ◌≡◌ {A = Option (Rec (List ℕ) Span)} (elim b [ true ↦ some (record_at (suc k)) | false ↦ none ])
-          (map_option (renamed (name_at sheet names)) (inner_at sheet (number_if b (suc (suc k)))))
+          (map_option (renamed (name_at sheet names)) (at_place sheet (index_at (number_if b (suc (suc k))))))
       by-test true l = ap some (decode-view sheet names (suc k) (fits-at (suc k) l))
       by-test false l = refl
 
       go : Dec (suc k < length sheet / 32) →
           inner_of (record_at k).sub (drop (suc k) rs)
-          ≡ map_option (renamed (name_at sheet names)) (inner_at sheet (target_at (suc k) (record_at k ∷ drop (suc k) rs)))
+          ≡ map_option (renamed (name_at sheet names)) (at_place sheet (index_at (target_at (suc k) (record_at k ∷ drop (suc k) rs))))
       go (yes l) = rw (drop_at (suc k) l) (by-test (Sub.is_renaming (record_at k).sub && Kind.is_type (record_at (suc k)).kind) l)
       go (no g) = rw (records-end sheet names (suc k) (omega arith))
 

@@ -14,11 +14,11 @@ use borrow.Author.Tests.{lt-ltb, le-ltb}
 use Rattle.rules.specs.declared.span.Span.{Span}
 use Rattle.rules.specs.Words.{within, number_if}
 use Rattle.rules.specs.Kind
-use Rattle.rules.specs.Record.{Rec, is, record_bytes, sub_in}
-use Rattle.rules.specs.Context.{Declared, ValidationContext, behind, chain_end}
+use Rattle.rules.specs.Record.{Rec, is}
+use Rattle.rules.specs.Context.{ValidationContext, inner_type, behind, chain_end}
 use Rattle.rules.specs.Refusals.{max_records}
 use Rattle.rules.proofs.Chains.{is_some, chain-fixed}
-use Rattle.names.specs.View.{view_at, entry_of, id_part, declaration_part, import_part, target_part, code_part, declarations_of, declared_by, context_by, targets_from, totals_from}
+use Rattle.names.specs.View.{view_at, entry_of, id_part, declaration_part, import_part, target_part, code_part, declarations_of, declared_at, declared_by, context_by, targets_from, totals_from}
 use Rattle.names.specs.SameEnds.{sub_of, leads_on, SameEnds, Lasting, with_target}
 use Rattle.names.proofs.Shortened.{Next, kept, last, chain-step, short-ends, short-leads, short-lasting}
 
@@ -57,26 +57,6 @@ module _ (table : List ℕ) (i place : ℕ) where
   unfolding entry_of
   own-entry h l = rw (lt-ltb i max_records h, ← target-in table i place h) (get_or-set_same table (targets_from + i) place 0 l)
 
--- the type at a place
-abbrev pub inner_at : List ℕ → ℕ → Option (Rec ℕ Span)
-inner_at sheet target = elim target [ zero ↦ none | suc t ↦ some (view_at sheet t) ]
-
--- a declaration of the view, by the places of its record and of its type
-abbrev pub declared_at : List ℕ → ℕ → ℕ → Option (Declared ℕ Span)
-declared_at sheet declaration target =
-    elim declaration [
-      | zero ↦ none
-      | suc d ↦ some (record {
-        sub = sub_in (record_bytes sheet d);
-        inner = inner_at sheet target;
-      })
-    ]
-
--- the inner type of what a name is declared as
-abbrev inner_type : Option (Declared ℕ Span) → Option (Rec ℕ Span)
-inner_type none = none
-inner_type (some d) = d.inner
-
 -- the sub does not depend on the type
 same-sub : (sheet : List ℕ) (d t t' : ℕ) → sub_of (declared_at sheet d t) ≡ sub_of (declared_at sheet d t')
 same-sub sheet zero t t' = refl
@@ -86,11 +66,7 @@ module _ (ctx : ValidationContext ℕ Span) where
   -- the type behind a type of a name
   named-behind : (r : Rec ℕ Span) → is Kind.Named r ≡ true → behind ctx r ≡ inner_type (ctx.decl_map r.name)
   unfolding behind
-  named-behind r e = rw (e, behind) (go (ctx.decl_map r.name))
-    where
-      go : (o : Option (Declared ℕ Span)) → ◌≡◌ {A = Option (Rec ℕ Span)} (elim o [ none ↦ none | some d ↦ d.inner ]) (inner_type o)
-      go none = refl
-      go (some d) = refl
+  named-behind r e = rw (e, behind)
 
   other-behind : (r : Rec ℕ Span) → is Kind.Named r ≡ false → behind ctx r ≡ none
   unfolding behind

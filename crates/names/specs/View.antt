@@ -1,6 +1,7 @@
 -- How the rules read a sheet through the table of names: a record's name is its index, and what is asked of a name is looked up in the
 -- table at that index. It holds for every content of the table.
 use Rattle.std.specs.Prelude.{ℕ, zero, suc, ◌+◌, ◌-◌, ◌*◌, true, not, List, [], ◌∷◌, get_or, eqb, ltb}
+use Rattle.std.specs.Prelude as std
 use Rattle.std.proofs.Math.Option.{Option, some, none}
 use Rattle.rules.specs.declared.span.Span.{Span}
 use Rattle.rules.specs.Words.{within, number_if}
@@ -86,16 +87,24 @@ wildcard_of table = get_or table totals_from 0
 abbrev pub declarations_of : List ℕ → ℕ
 declarations_of table = get_or table (totals_from + 1) 0
 
+-- the index at a place of the table, which counts from 1; none at 0
+abbrev pub index_at : ℕ → std.Option ℕ
+index_at zero = std.None
+index_at (suc i) = std.Some i
+
+-- the record with that index, if there is one
+abbrev pub at_place : List ℕ → std.Option ℕ → Option (Rec ℕ Span)
+at_place sheet std.None = none
+at_place sheet (std.Some i) = some (view_at sheet i)
+
+-- a declaration, by the places of its record and of its type
+abbrev pub declared_at : List ℕ → ℕ → ℕ → Option (Declared ℕ Span)
+declared_at sheet zero target = none
+declared_at sheet (suc d) target = some (record { sub = sub_in (record_bytes sheet d); inner = at_place sheet (index_at target) })
+
 -- what record i's name is declared as
 unfoldable pub declared_by : List ℕ → List ℕ → ℕ → Option (Declared ℕ Span)
-declared_by table sheet i =
-    elim (entry_of declaration_part table i) [
-      | zero ↦ none
-      | suc d ↦ some (record {
-        sub = sub_in (record_bytes sheet d);
-        inner = elim (entry_of target_part table i) [ zero ↦ none | suc t ↦ some (view_at sheet t) ];
-      })
-    ]
+declared_by table sheet i = declared_at sheet (entry_of declaration_part table i) (entry_of target_part table i)
 
 -- the context that the table gives
 unfoldable pub context_by : List ℕ → List ℕ → ValidationContext ℕ Span

@@ -1,9 +1,9 @@
 // What a declaration is checked against: the sheet, and the table of its names, which is asked by the records that have them.
 ghost use Rattle.std.specs.Prelude.{◌≡◌, ◌<◌, not, eqb, IfSome};
 ghost use Rattle.rules.specs.Context as Context;
-ghost use Rattle.names.specs.View.{view_at, entry_of, id_part, declaration_part, import_part, target_part, code_part, max_place, wildcard_of, declarations_of};
+ghost use Rattle.names.specs.View.{view_at, entry_of, id_part, declaration_part, import_part, target_part, code_part, max_place, index_at, at_place, wildcard_of, declarations_of};
 ghost use Rattle.names.specs.WordOf.{word_of};
-ghost use Rattle.names.specs.Known.{numbers_of, context_in, index_at, at_place};
+ghost use Rattle.names.specs.Known.{numbers_of, context_in};
 
 use crate::table::NameTable;
 use crate::words::{BIT, Word};

@@ -2,8 +2,7 @@
 ghost use Rattle.std.specs.Prelude.{◌≡◌, ◌+◌, ◌<◌, ◌≤◌, true, not, eqb, [], ◌∷◌, ◌++◌, ℕ, length, get_or, set, take, replicate, ltb, IfSome};
 ghost use Rattle.rules.specs.Words.{number_if};
 ghost use Rattle.rules.specs.Refusals.{max_records};
-ghost use Rattle.names.specs.View.{entry_of, id_part, declaration_part, import_part, target_part, code_part, ids_from, declarations_from, imports_from, codes_from, totals_from, table_size, max_place, wildcard_of, declarations_of};
-ghost use Rattle.names.specs.Known.{index_at};
+ghost use Rattle.names.specs.View.{entry_of, id_part, declaration_part, import_part, target_part, code_part, ids_from, declarations_from, imports_from, codes_from, totals_from, table_size, max_place, index_at, wildcard_of, declarations_of};
 ghost use Rattle.names.specs.Notes.{set_first, Silent};
 ghost use Rattle.names.specs.SameEnds.{with_target};
 

@@ -3,8 +3,7 @@ use Rattle.std.proofs.Common.{◌≡◌, ℕ, zero, suc, Bool, false, List, eqb,
 use Rattle.std.specs.Prelude.{MatchOption}
 use Rattle.rules.specs.Record.{record_bytes, sub_in}
 use Rattle.rules.specs.Context.{declared_as}
-use Rattle.names.specs.View.{entry_of, declaration_part, context_by}
-use Rattle.names.specs.Known.{index_at}
+use Rattle.names.specs.View.{entry_of, declaration_part, index_at, context_by}
 use Rattle.names.proofs.Behind.{undeclared, declared-at}
 
 module _ (table sheet : List ℕ) (i : ℕ) where

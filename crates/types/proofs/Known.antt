@@ -1,8 +1,7 @@
 -- A name is declared where the table has a place for its declaration.
 use Rattle.std.proofs.Common.{◌≡◌, ℕ, zero, suc, List, refl, is_some}
 use Rattle.rules.specs.Context.{is_declared}
-use Rattle.names.specs.View.{entry_of, declaration_part, context_by}
-use Rattle.names.specs.Known.{index_at}
+use Rattle.names.specs.View.{entry_of, declaration_part, index_at, context_by}
 use Rattle.names.proofs.Behind.{undeclared, declared-at}
 
 module _ (table sheet : List ℕ) (i : ℕ) where
