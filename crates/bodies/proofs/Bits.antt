@@ -7,7 +7,7 @@ use Rattle.rules.specs.Record.{Rec, is}
 use Rattle.rules.specs.Context.{ValidationContext}
 use Rattle.rules.specs.Grammar.{starts_item}
 use Rattle.rules.specs.Rule.{Found, found_if}
-use Rattle.rules.specs.Bodies.{flags_scheme, body_items, slots, retired_ordinals, member_violations, items_violations, flags_violations}
+use Rattle.rules.specs.Bodies.{max_bit, flags_scheme, body_items, slots, retired_ordinals, member_violations, items_violations, flags_violations}
 use Rattle.bodies.specs.Bit.{bit_found}
 use Rattle.bodies.proofs.BodyItems.{item-member, no_item}
 
@@ -15,7 +15,7 @@ module _ {N P : Type 0} (ctx : ValidationContext N P) where
   -- of the scheme's rules only the first is there
   member-bit :
       (gone met : List ℕ) (names : List N) (r : Rec N P) →
-      member_violations ctx flags_scheme gone met names r ≡ found_if 34 (ltb 63 r.value) r.ordinal_place
+      member_violations ctx flags_scheme gone met names r ≡ found_if 34 (ltb max_bit r.value) r.ordinal_place
   unfolding member_violations flat_map
   member-bit gone met names r = simp append-nil
 

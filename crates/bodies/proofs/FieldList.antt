@@ -12,11 +12,10 @@ use Rattle.rules.specs.Bodies.{field_scheme, items_violations, field_item_violat
 use Rattle.names.specs.Known.{numbers_of, context_in}
 use Rattle.names.specs.View.{view_at, view_of, entry_of, id_part, context_by}
 use Rattle.diagnostic.specs.declared.violations.Violations.{Violations}
-use Rattle.diagnostic.specs.Push.{push_found}
-use Rattle.diagnostic.specs.Violations.{state_of, Adds}
+use Rattle.diagnostic.specs.Violations.{Adds}
 use Rattle.annotations.specs.Slots.{has_key}
 use Rattle.annotations.specs.Met.{Row, of_kind, is_met}
-use Rattle.types.proofs.Left.{Leaves, leaves_rest, leaves_none}
+use Rattle.types.proofs.Left.{Leaves, leaves_all, leaves_rest, leaves_none}
 use Rattle.bodies.specs.declared.whole.WholeRecords.{WholeRecords}
 use Rattle.bodies.specs.declared.seen.Seen.{Seen}
 use Rattle.bodies.specs.declared.seen.ItemList.{ItemList}
@@ -102,7 +101,7 @@ module _ (fields : WholeRecords) where
     named = named;
     most = fields.ordered;
     known = rw list at known;
-    found = record { reference = refl; state = ap (λ fs. push_found fs (state_of vs)) (fields-start table sheet a e) };
+    found = rw (← (fields-start table sheet a e)) (leaves_all vs (still a));
   }
 
   module _ (seen : Seen) (names : Row) (old now : Violations) where

@@ -1,14 +1,15 @@
 -- What is found at an ordinal is what its rules find, one after the other.
 use Prim.Native.Nat.{ℕ}
 use mathlib.Core.Bool.{Bool, true, false, not, ◌&&◌, true≢false}
-use mathlib.Core.List.{List, [], ◌∷◌, append-nil, flat_map}
+use mathlib.Core.List.{List, append-nil, flat_map}
 use mathlib.Core.Path.{◌≡◌, refl, sym, ap, ◌∙◌}
 use lib.Dec.{leb, ltb}
 use borrow.Author.Tests.{leb-true, le-ltb}
 use Rattle.rules.specs.Record.{record_bytes, span_in, ordinal_span_in, value_in}
 use Rattle.rules.specs.Rule.{found_if}
 use Rattle.rules.specs.RuleNumber.{rule_number}
-use Rattle.rules.specs.Bodies.{field_scheme}
+use Rattle.rules.specs.declared.rule.Rule.TheVariants.{OrdinalTooLarge, OrdinalReusedAfterRemoved, OrdinalDuplicate}
+use Rattle.rules.specs.Bodies.{max_field_ordinal, field_scheme}
 use Rattle.names.specs.View.{view_at}
 use Rattle.diagnostic.specs.declared.violations.Violations.{Violations}
 use Rattle.diagnostic.specs.Violations.{Adds}
@@ -16,7 +17,12 @@ use Rattle.diagnostic.proofs.Added.{adds_none, adds_then}
 use Rattle.bodies.specs.declared.ordinal.OrdinalRules.{OrdinalRules}
 use Rattle.bodies.specs.Ordinal.{scheme_of, member_found}
 
+-- rules 2 to 4
+abbrev field_rules : OrdinalRules
+field_rules = record { greatest = max_field_ordinal; too_large = OrdinalTooLarge; reused = OrdinalReusedAfterRemoved; duplicate = OrdinalDuplicate }
+
 module _ (sheet : List ℕ) (i : ℕ) (tombstoned met : Bool) where
+  -- the rules of an ordinal, one after the other
   pub ordinal_found :
       (rules : OrdinalRules) (ordinal : ℕ) (old large reused now : Violations) → ordinal ≡ value_in (record_bytes sheet i) →
       Adds old large (found_if (rule_number rules.too_large) (ltb rules.greatest ordinal) (ordinal_span_in (record_bytes sheet i))) →
@@ -45,7 +51,7 @@ module _ (sheet : List ℕ) (i : ℕ) (tombstoned met : Bool) where
   -- a field's ordinal, and then its name
   pub named_found :
       (renamed : Bool) (old mid now : Violations) →
-      Adds old mid (member_found (record { greatest = 65535; over = 2 ∷ []; tombstoned = 3 ∷ []; repeated = 4 ∷ []; renamed = [] }) tombstoned met false (view_at sheet i)) →
+      Adds old mid (member_found (scheme_of field_rules) tombstoned met false (view_at sheet i)) →
       Adds mid now (found_if 5 renamed (span_in (record_bytes sheet i))) →
       Adds old now (member_found field_scheme tombstoned met renamed (view_at sheet i))
   unfolding member_found view_at flat_map

@@ -39,10 +39,10 @@ use Rattle.bodies.proofs.FieldTurns.{member-tests}
 
 -- the kinds of a body
 variant-starts : (r : Rec ℕ Span) → is Kind.Variant r ≡ true → starts_item r ≡ true
-variant-starts r t = let k : r.kind ≡ 14 = eqb-true r.kind 14 t in rw k
+variant-starts r t = let k : r.kind ≡ Kind.Variant = eqb-true r.kind Kind.Variant t in rw k
 
 variant-member : (r : Rec ℕ Span) → is Kind.Variant r ≡ true → is_member r ≡ true
-variant-member r t = let k : r.kind ≡ 14 = eqb-true r.kind 14 t in rw k
+variant-member r t = let k : r.kind ≡ Kind.Variant = eqb-true r.kind Kind.Variant t in rw k
 
 module _ (body : WholeRecords) where
   abbrev sheet : List ℕ
@@ -65,7 +65,7 @@ module _ (body : WholeRecords) where
   pub record VariantsKnown (seen : Seen) (i : ℕ) : Type 0 where
     pub list : seen.list ≡ variants_of
     pub most : i ≤ e
-    pub known : Known 14 15 sheet a e seen.tombstones seen.ordinals seen.marks seen.len i
+    pub known : Known Kind.Variant Kind.Tombstone sheet a e seen.tombstones seen.ordinals seen.marks seen.len i
 
   pub variants_none : (seen : Seen) → seen.list ≡ variants_of → KnownBefore seen a → VariantsKnown seen a
   variants_none seen list known = record { list = list; most = body.ordered; known = rw list at known }
@@ -73,16 +73,16 @@ module _ (body : WholeRecords) where
   -- at a record
   module _ (seen : Seen) (i kind : ℕ) (k : VariantsKnown seen i) (h : i < e) (hk : kind ≡ kind_in (record_bytes sheet i)) where
     -- that is no variant
-    pub variants_other : (kind ≡ 14 → ⊥) → VariantsKnown seen (i + 1)
+    pub variants_other : (kind ≡ Kind.Variant → ⊥) → VariantsKnown seen (i + 1)
     variants_other ne = record {
       list = k.list;
       most = omega arith;
-      known = known-other 14 15 sheet a e seen.tombstones seen.ordinals seen.marks seen.len i k.known h (kind-not sheet i kind 14 hk ne);
+      known = known-other Kind.Variant Kind.Tombstone sheet a e seen.tombstones seen.ordinals seen.marks seen.len i k.known h (kind-not sheet i kind Kind.Variant hk ne);
     }
 
     -- that is one
-    pub meets_variant : kind ≡ 14 → IsItem seen.list i
-    meets_variant eq = rw k.list (h, kind-is sheet i kind 14 hk eq, has-ordinal kind 14 (kind_in (record_bytes sheet i)) hk eq variant-has)
+    pub meets_variant : kind ≡ Kind.Variant → IsItem seen.list i
+    meets_variant eq = rw k.list (h, kind-is sheet i kind Kind.Variant hk eq, has-ordinal kind Kind.Variant (kind_in (record_bytes sheet i)) hk eq variant-has)
 
     pub variants_met : (seen' : Seen) → seen'.list ≡ seen.list → KnownBefore seen' (i + 1) → VariantsKnown seen' (i + 1)
     variants_met seen' same known' =
@@ -97,68 +97,72 @@ module _ (body : WholeRecords) where
     own = at_variant parts
 
     abbrev tombs : List ℕ
-    tombs = gone 14 15 sheet a e
+    tombs = gone Kind.Variant Kind.Tombstone sheet a e
 
     abbrev variants : ℕ → List (Rec ℕ Span)
-    variants i = before 14 15 sheet a e i
+    variants i = before Kind.Variant Kind.Tombstone sheet a e i
 
     abbrev behind : ℕ → List (Rec ℕ Span)
     behind i = front in_item (view_of sheet (i + 1) e)
 
-    -- what is found at the variants, and at those from record i on
+    -- what is found at the variants, and what is left to find from record i on
     abbrev pub variants_found : List (Found Span)
     variants_found = list_violations ctx (scheme_of rules) own (body_items (view_of sheet a e))
 
     abbrev pub variants_left : ℕ → List (Found Span)
-    variants_left i = left ctx (scheme_of rules) own starts_item 14 sheet a e tombs i
+    variants_left i = left ctx (scheme_of rules) own starts_item Kind.Variant sheet a e tombs i
 
-    pub found_all : (vs : Violations) → Leaves vs vs variants_found (variants_left a)
+    -- at the first record all is left
+    pub left_first : (vs : Violations) → Leaves vs vs variants_found (variants_left a)
     unfolding earlier
-    found_all vs =
+    left_first vs =
         let none : a - a ≡ 0 = omega arith in
         let same : variants_left a ≡ variants_found =
         rw none (ap (λ xs. items_violations ctx (scheme_of rules) own xs [] [] (items starts_item (view_of sheet a e))) (sym (retired-items (view_of sheet a e)))) in
         rw (← same) (leaves_all vs (variants_left a))
 
     module _ (old now : Violations) (i : ℕ) (leaves : Leaves old now variants_found (variants_left i)) where
-      pub found_end : e ≤ i → Adds old now variants_found
-      found_end h = leaves_none old now _ _ leaves (turn-none ctx (scheme_of rules) own starts_item 14 sheet a e tombs i h)
+      -- at the end nothing is
+      pub left_none : e ≤ i → Adds old now variants_found
+      left_none h = leaves_none old now _ _ leaves (turn-none ctx (scheme_of rules) own starts_item Kind.Variant sheet a e tombs i h)
 
       module _ (seen : Seen) (kind : ℕ) (k : VariantsKnown seen i) (h : i < e) (hk : kind ≡ kind_in (record_bytes sheet i)) where
-        pub found_other : (kind ≡ 14 → ⊥) → Leaves old now variants_found (variants_left (i + 1))
-        found_other ne = rw (go (starts_item (at i)) refl) at leaves
+        -- a record that is no variant
+        pub left_other : (kind ≡ Kind.Variant → ⊥) → Leaves old now variants_found (variants_left (i + 1))
+        left_other ne = rw (go (starts_item (at i)) refl) at leaves
           where
             t : is Kind.Variant (at i) ≡ false
-            t = kind-not sheet i kind 14 hk ne
+            t = kind-not sheet i kind Kind.Variant hk ne
 
             go : (b : Bool) → starts_item (at i) ≡ b → variants_left i ≡ variants_left (i + 1)
             go true st =
-                turn-other ctx (scheme_of rules) own starts_item 14 sheet a e tombs i k.known.2 h st (item-member (at i) st ∙ t) t
+                turn-other ctx (scheme_of rules) own starts_item Kind.Variant sheet a e tombs i k.known.2 h st (item-member (at i) st ∙ t) t
                 ∙ ap (λ b. only_if b (parts (behind i)) ++ variants_left (i + 1)) t
-            go false st = turn-inner ctx (scheme_of rules) own starts_item 14 sheet a e tombs i k.known.2 h st t
+            go false st = turn-inner ctx (scheme_of rules) own starts_item Kind.Variant sheet a e tombs i k.known.2 h st t
 
         -- no name is asked for
         names-free : (tombstoned met b c : Bool) (r : Rec ℕ Span) → member_found (scheme_of rules) tombstoned met b r ≡ member_found (scheme_of rules) tombstoned met c r
         unfolding member_found flat_map
         names-free tombstoned met b c r = refl
 
-        pub found_variant :
-            (m : MetItem) (rest : WholeRecords) (mid new : Violations) → kind ≡ 14 → m.sheet ≡ seen.list.records.context.sheet → m.index ≡ i →
+        -- a variant
+        pub left_variant :
+            (m : MetItem) (rest : WholeRecords) (mid new : Violations) → kind ≡ Kind.Variant → m.sheet ≡ seen.list.records.context.sheet → m.index ≡ i →
             m.meeting.tombstoned ≡ tombstoned_in seen.list (value_in (record_bytes (sheet_of seen.list) i)) →
             m.meeting.met ≡ met_before seen.list i (value_in (record_bytes (sheet_of seen.list) i)) →
             rest.range ≡ record { start = i + 1; end = e } → rest.context ≡ body.context →
             Adds now mid (member_found (scheme_of rules) m.meeting.tombstoned m.meeting.met false (view_at m.sheet.now m.index)) →
             Adds mid new (parts (front in_item (records_in rest.context rest.range))) → Leaves old new variants_found (variants_left (i + 1))
         unfolding view_at
-        found_variant m rest mid new eq hs hi ht hm hr hc ordinal found =
-            let test : is Kind.Variant (at i) ≡ true = kind-is sheet i kind 14 hk eq in
+        left_variant m rest mid new eq hs hi ht hm hr hc ordinal found =
+            let test : is Kind.Variant (at i) ≡ true = kind-is sheet i kind Kind.Variant hk eq in
             let gone : Bool = m.meeting.tombstoned in
             let again : Bool = any_of (ctx.same (at i).name) (names_of (variants i)) in
             let dead : gone ≡ member (value_in (record_bytes sheet i)) tombs = rw k.list at ht in
             let met : m.meeting.met ≡ member (value_in (record_bytes sheet i)) (values (variants i)) = rw k.list at hm in
             let here : List (Found Span) = member_found (scheme_of rules) gone m.meeting.met false (at i) in
             leaves_rest old now new _ _ (here ++ parts (behind i)) _ leaves
-            (turn-member ctx (scheme_of rules) own starts_item 14 sheet a e tombs i k.known.2 h (variant-starts (at i) test) (variant-member (at i) test) test
+            (turn-member ctx (scheme_of rules) own starts_item Kind.Variant sheet a e tombs i k.known.2 h (variant-starts (at i) test) (variant-member (at i) test) test
             ∙ ap₂ (λ xs b. xs ++ only_if b (parts (behind i)) ++ variants_left (i + 1))
             (sym (names-free gone m.meeting.met false again (at i)
             ∙ member-tests ctx (scheme_of rules) tombs (values (variants i)) (names_of (variants i)) (at i) gone m.meeting.met again dead
