@@ -30,6 +30,7 @@ use Rattle.rules.proofs.AcceptedSheet.{accepted-length, accepted-whole, accepted
 use Rattle.rules.proofs.Chains.{is_some, goes_on, chain-stays, never_ends_lem}
 use Rattle.rules.proofs.Renamed.{renamed, has_name_of, map_option, Holds, renamed_declared, WellNamed, Agree, Alike, endless-renamed, goes-renamed, never-renamed, agree-alike}
 use Rattle.rules.proofs.RenamedBodies.{violations-renamed}
+use Rattle.names.specs.Codes.{last_word, blank_code, bit_code}
 use Rattle.names.specs.NameTable.{place_of, id_in, declaration_in, target_at, target_in, word_code, code_of, name_table, table_of}
 use Rattle.names.specs.Parts.{target_of}
 use Rattle.names.specs.View.{view_at, view_from, view_of, entry_of, id_part, declaration_part, import_part, target_part, code_part, index_at, at_place, declared_at, declared_by, context_by}
@@ -169,7 +170,7 @@ module _ (sheet names : List ℕ) (room : length sheet ≤ 32768) (whole : lengt
       let worded = (and_parts (is_named_in (record_bytes sheet i)) (is_worded (kind_in (record_bytes sheet i))) has).1 in
       code-entry is_worded i has ∙ rw (worded, code_of)
 
-  valid-entry : (i : ℕ) → HasName is_spelled sheet i → entry_of code_part (table_of rs) i ≡ number_if (valid_field_name (name_at sheet names i)) 9
+  valid-entry : (i : ℕ) → HasName is_spelled sheet i → entry_of code_part (table_of rs) i ≡ number_if (valid_field_name (name_at sheet names i)) bit_code
   unfolding code_of
   valid-entry i has =
       let spelled = (and_parts (is_named_in (record_bytes sheet i)) (is_spelled (kind_in (record_bytes sheet i))) has).1 in
@@ -267,9 +268,9 @@ module _ (sheet names : List ℕ) (room : length sheet ≤ 32768) (whole : lengt
         has_wildcard_import = sym (tested (any_of (is Kind.Wildcard) rs)) ∙ ap (λ (n : ℕ). not (eqb n 0)) (sym (wildcard-entry rs));
         declarations = sym (declarations-entry rs);
         same = same-entry;
-        word = λ m h. code-word (name_at sheet names m) ∙ ap (λ (c : ℕ). number_if (within 1 7 c) c) (sym (word-entry m h));
-        blank = λ m h. code-blank (name_at sheet names m) ∙ ap (λ (c : ℕ). eqb c 8) (sym (word-entry m h));
-        is_valid_field_name = λ m h. code-valid (valid_field_name (name_at sheet names m)) ∙ ap (λ (c : ℕ). eqb c 9) (sym (valid-entry m h));
+        word = λ m h. code-word (name_at sheet names m) ∙ ap (λ (c : ℕ). number_if (within 1 last_word c) c) (sym (word-entry m h));
+        blank = λ m h. code-blank (name_at sheet names m) ∙ ap (λ (c : ℕ). eqb c blank_code) (sym (word-entry m h));
+        is_valid_field_name = λ m h. code-valid (valid_field_name (name_at sheet names m)) ∙ ap (λ (c : ℕ). eqb c bit_code) (sym (valid-entry m h));
       }
 
   -- the table says of the index of a record with a name what the context says of the name

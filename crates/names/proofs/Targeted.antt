@@ -18,6 +18,7 @@ use Rattle.rules.specs.Record.{Rec, is}
 use Rattle.rules.specs.Context.{ValidationContext, inner_type, behind, chain_end}
 use Rattle.rules.specs.Refusals.{max_records}
 use Rattle.rules.proofs.Chains.{is_some, chain-fixed}
+use Rattle.names.specs.Codes.{last_word, blank_code, bit_code}
 use Rattle.names.specs.View.{view_at, entry_of, id_part, declaration_part, import_part, target_part, code_part, declarations_of, declared_at, declared_by, context_by, targets_from, totals_from}
 use Rattle.names.specs.SameEnds.{sub_of, leads_on, SameEnds, Lasting, with_target}
 use Rattle.names.proofs.Shortened.{Next, kept, last, chain-step, short-ends, short-leads, short-lasting}
@@ -179,9 +180,9 @@ module _ (table sheet : List ℕ) (i e : ℕ) where
             has_wildcard_import = ap (λ (n : ℕ). not (eqb n 0)) (sym (elsewhere table i (suc e) totals_from (λ h k. omega arith)));
             declarations = same_count;
             same = λ t j k. eqb (sym (kept_entry id_part j (λ h. omega arith)) t) (sym (kept_entry id_part k (λ h. omega arith)) t);
-            word = λ t j. number_if (within 1 7 (code j t)) (code j t);
-            blank = λ t j. eqb (code j t) 8;
-            is_valid_field_name = λ t j. eqb (code j t) 9;
+            word = λ t j. number_if (within 1 last_word (code j t)) (code j t);
+            blank = λ t j. eqb (code j t) blank_code;
+            is_valid_field_name = λ t j. eqb (code j t) bit_code;
           }
         where
           code : (j : ℕ) → entry_of code_part table j ≡ entry_of code_part short j

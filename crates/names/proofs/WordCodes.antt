@@ -14,6 +14,7 @@ use Rattle.rules.specs.Context.{words, word_from, valid_field_name}
 use Rattle.rules.specs.Asked.{is_worded}
 use Rattle.rules.proofs.Moved.{same_bytes-tells}
 use Rattle.names.specs.NameTable.{word_code, code_of}
+use Rattle.names.specs.Codes.{blank_code, bit_code}
 
 shifted : (x : ℕ) (s : List ℕ) (i : ℕ) (p : List ℕ) → HasBytesAt s i p → HasBytesAt (x ∷ s) (suc i) p
 shifted x s i [] h = tt
@@ -40,7 +41,7 @@ told n (w ∷ ws) name = decided (same_bytes w name) refl (told (suc n) ws name)
     decided false e others = inr others
 
 -- the code of a name, by its bytes
-pub word_told : (name : List ℕ) → ((word_code name ≡ 8) × (length name ≡ 0)) ⊎ Told 1 words (word_code name) name
+pub word_told : (name : List ℕ) → ((word_code name ≡ blank_code) × (length name ≡ 0)) ⊎ Told 1 words (word_code name) name
 unfolding word_code word_from same_bytes
 word_told [] = inl (refl, refl)
 word_told (b ∷ name) =
@@ -49,7 +50,7 @@ word_told (b ∷ name) =
 
 -- a name that has the bytes of a word has its code
 abbrev Read : ℕ → List (List ℕ) → ℕ → List ℕ → Type 0
-Read n [] code name = length name ≡ 0 → code ≡ 8
+Read n [] code name = length name ≡ 0 → code ≡ blank_code
 Read n (w ∷ ws) code name = (length name ≡ length w → HasBytesAt name 0 w → code ≡ n) × Read (suc n) ws code name
 
 pub word_read : (name : List ℕ) → Read 1 words (word_code name) name
@@ -60,7 +61,7 @@ word_read name =
     is : (k : ℕ) {n : ℕ} → word_code (get_or words k []) ≡ n → length name ≡ length (get_or words k []) → HasBytesAt name 0 (get_or words k []) → word_code name ≡ n
     is k e l h = ap word_code (text_from_reads name (get_or words k []) l h) ∙ e
 
-    blank : (xs : List ℕ) → length xs ≡ 0 → word_code xs ≡ 8
+    blank : (xs : List ℕ) → length xs ≡ 0 → word_code xs ≡ blank_code
     blank [] l = refl
     blank (x ∷ xs) l = absurd (omega arith)
 
@@ -74,7 +75,7 @@ module _ (kind : ℕ) (name : List ℕ) where
   unfolding code_of
   unasked_code f other = rw (f, code_of, ne_eqb kind Kind.BitName other)
 
-  pub judged_code : is_worded kind ≡ false → kind ≡ Kind.BitName → number_if (valid_field_name name) 9 ≡ code_of kind name
+  pub judged_code : is_worded kind ≡ false → kind ≡ Kind.BitName → number_if (valid_field_name name) bit_code ≡ code_of kind name
   unfolding code_of
   judged_code f e = rw (f, code_of, eq-eqb kind Kind.BitName e)
 

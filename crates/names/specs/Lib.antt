@@ -1,4 +1,5 @@
 pub mod Buckets
+pub mod Codes
 pub mod NameTable
 pub mod Parts
 pub mod Notes

@@ -12,6 +12,7 @@ use Rattle.rules.specs.Record.{Rec, is, records}
 use Rattle.rules.specs.Asked.{is_compared, is_worded, is_spelled}
 use Rattle.rules.specs.Context.{words, word_from, valid_field_name, is_blank}
 use Rattle.rules.specs.Refusals.{max_records}
+use Rattle.names.specs.Codes.{blank_code, bit_code}
 
 module _ {A : Type 0} where
   -- the place of the first element that passes the test, counted from 1; 0 where there is none
@@ -63,14 +64,13 @@ module _ {P : Type 0} where
   unfoldable pub target_in : List (Rec (List ℕ) P) → Rec (List ℕ) P → ℕ
   target_in rs r = elim (declaration_in rs r) [ zero ↦ 0 | suc n ↦ target_at (suc n) (drop n rs) ]
 
--- the code of a name that may be a word: 1 to 7 for the words that annotations and arguments know, 8 for the name with no bytes, and 0 for every
--- other
+-- the code of a name that may be a word: that of a word that annotations and arguments know, that of the name with no bytes, and 0 for every other
 unfoldable pub word_code : List ℕ → ℕ
-word_code name = word_from 1 words name + number_if (is_blank name) 8
+word_code name = word_from 1 words name + number_if (is_blank name) blank_code
 
--- the code of a name, by the kind of its record: of a name that is judged it is 9 if a bit may have the name
+-- the code of a name, by the kind of its record: of a name that is judged it says whether a bit may have the name
 unfoldable pub code_of : ℕ → List ℕ → ℕ
-code_of kind name = elim (is_worded kind) [ true ↦ word_code name | false ↦ number_if (is_spelled kind && valid_field_name name) 9 ]
+code_of kind name = elim (is_worded kind) [ true ↦ word_code name | false ↦ number_if (is_spelled kind && valid_field_name name) bit_code ]
 
 -- the table of records
 unfoldable pub table_of : List (Rec (List ℕ) Span) → List ℕ

@@ -8,6 +8,7 @@ use Rattle.rules.specs.Words.{within, number_if}
 use Rattle.rules.specs.Record.{Rec, record_bytes, kind_in, sub_in, clean_in, span_in, ordinal_span_in, value_in}
 use Rattle.rules.specs.Context.{ValidationContext, Declared}
 use Rattle.rules.specs.Refusals.{max_records}
+use Rattle.names.specs.Codes.{last_word, blank_code, bit_code}
 
 -- record i of a sheet, named by its index
 unfoldable pub view_at : List ℕ → ℕ → Rec ℕ Span
@@ -115,7 +116,7 @@ context_by table sheet =
       has_wildcard_import = not (eqb (wildcard_of table) 0);
       declarations = declarations_of table;
       same = λ i j. eqb (entry_of id_part table i) (entry_of id_part table j);
-      word = λ i. number_if (within 1 7 (entry_of code_part table i)) (entry_of code_part table i);
-      blank = λ i. eqb (entry_of code_part table i) 8;
-      is_valid_field_name = λ i. eqb (entry_of code_part table i) 9;
+      word = λ i. number_if (within 1 last_word (entry_of code_part table i)) (entry_of code_part table i);
+      blank = λ i. eqb (entry_of code_part table i) blank_code;
+      is_valid_field_name = λ i. eqb (entry_of code_part table i) bit_code;
     }

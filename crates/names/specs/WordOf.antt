@@ -2,6 +2,7 @@
 use Rattle.std.specs.Prelude.{ℕ, Option, Some, None, if◌then◌else◌, ◌==◌}
 use Rattle.names.specs.declared.words.Word.{Word}
 use Rattle.names.specs.declared.words.Word.TheVariants.{Varint, Zigzag, Delta, Limit, Deprecated, Doc, Reason, Blank}
+use Rattle.names.specs.Codes.{blank_code}
 
 -- the word with that code
 unfoldable pub word_of : ℕ → Option Word
@@ -13,7 +14,7 @@ word_of code =
     else (if code == 5 then Some Deprecated
     else (if code == 6 then Some Doc
     else (if code == 7 then Some Reason
-    else (if code == 8 then Some Blank
+    else (if code == blank_code then Some Blank
     else None)))))))
 
 -- the code of a word
@@ -25,4 +26,4 @@ code_of Limit = 4
 code_of Deprecated = 5
 code_of Doc = 6
 code_of Reason = 7
-code_of Blank = 8
+code_of Blank = blank_code

@@ -16,11 +16,11 @@ pub enum Word {
     Doc = 6,
     Reason = 7,
     // the name with no bytes, which `is_number` asks for as for a word
-    Blank = 8,
+    Blank = 15,
 }
 
-// The code of a name that a bit may have.
-pub const BIT: u16 = 9;
+// The code of a name that a bit may have. It and `Blank` leave room for words that are yet to come.
+pub const BIT: u16 = 16;
 
 impl From<Word> for u16 {
     fn from(word: Word) -> u16
@@ -44,7 +44,7 @@ impl Word {
             5 => Some(Word::Deprecated),
             6 => Some(Word::Doc),
             7 => Some(Word::Reason),
-            8 => Some(Word::Blank),
+            15 => Some(Word::Blank),
             _ => None,
         }
     }
