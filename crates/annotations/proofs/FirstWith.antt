@@ -15,6 +15,7 @@ use Rattle.rules.specs.Kind
 use Rattle.rules.specs.Record.{Rec, is}
 use Rattle.rules.specs.Rule.{Found, found_if}
 use Rattle.rules.specs.Annotations.{annotations_of, is_word, combined_violations}
+use Rattle.names.specs.Codes.{last_word}
 use Rattle.names.specs.View.{view_at, view_of, context_by, entry_of, code_part}
 use Rattle.diagnostic.specs.declared.violations.Violations.{Violations}
 use Rattle.diagnostic.specs.Violations.{Adds}
@@ -24,7 +25,7 @@ use Rattle.annotations.specs.FirstWith.{first_with, at_first}
 use Rattle.annotations.proofs.Views.{annotations-next, annotations-other, annotations-none}
 use Rattle.annotations.proofs.WordCodes.{word-is}
 
-module _ (table sheet : List ℕ) (word e : ℕ) (from : 1 ≤ word) (to : word ≤ 7) where
+module _ (table sheet : List ℕ) (word e : ℕ) (from : 1 ≤ word) (to : word ≤ last_word) where
   -- record i is an annotation with the word
   abbrev pub has_word : ℕ → Bool
   has_word i = is Kind.Annotation (view_at sheet i) && eqb (entry_of code_part table i) word

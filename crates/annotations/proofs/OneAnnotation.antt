@@ -4,6 +4,7 @@ use Rattle.rules.specs.declared.span.Span.{Span}
 use Rattle.rules.specs.Record.{Rec}
 use Rattle.rules.specs.Rule.{Found}
 use Rattle.rules.specs.Annotations.{deprecated_violations, annotation_violations}
+use Rattle.names.specs.Codes.{last_word}
 use Rattle.names.specs.View.{view_at, view_of, context_by, entry_of, code_part}
 use Rattle.diagnostic.specs.declared.violations.Violations.{Violations}
 use Rattle.diagnostic.specs.Violations.{Adds}
@@ -46,7 +47,7 @@ module _ (table sheet : List ℕ) (i e a z : ℕ) where
   by-word Blank h = rw (coded _ Blank h)
 
   -- a name that is no word
-  not-word : (w : Word) → None ≡ word_of (entry_of code_part table i) → 1 ≤ code_of w → code_of w ≤ 7 → eqb ((context_by table sheet).word i) (code_of w) ≡ false
+  not-word : (w : Word) → None ≡ word_of (entry_of code_part table i) → 1 ≤ code_of w → code_of w ≤ last_word → eqb ((context_by table sheet).word i) (code_of w) ≡ false
   not-word w h f t = word-other table sheet i (code_of w) f t _ refl (uncoded _ w (sym h))
 
   pub no_word : (vs : Violations) → None ≡ word_of (entry_of code_part table i) → Adds vs vs all
