@@ -17,7 +17,7 @@ use Rattle.rules.specs.Context.{ValidationContext, declared_as, context_of}
 use Rattle.rules.specs.Grammar.{starts_field_item, starts_item}
 use Rattle.rules.specs.Rule.{Found, found_if}
 use Rattle.rules.specs.Bodies.{list_violations, declaration_violations, used_ordinals, backing_max, slots, retired_ordinals, Scheme, field_scheme, enum_scheme, flags_scheme, union_scheme, is_member, body_items, found_all, member_violations, items_violations, field_violations, field_item_violations, field_list_violations, enum_violations, flags_violations, union_violations, newtype_violations, body_violations, violations_of}
-use Rattle.rules.specs.Answer.{found_in, full_list, max_total, is_accepted}
+use Rattle.rules.specs.Answer.{found_in, full_list, most_per_record, max_total, is_accepted}
 use Rattle.rules.specs.Buffer.{violation_size, max_list_size}
 use Rattle.rules.specs.Items.{sum_of}
 use Rattle.rules.proofs.Records.{length-records}
@@ -89,7 +89,7 @@ module _ {N P : Type 0} (ctx : ValidationContext N P) where
       (mul-le-mul_left n (omega (arith, items-size start rs)))
 
   -- an item of a field list: an invariant breaks one rule and is no member
-  field-item-bound : (it : Item (Rec N P)) → 3 * one (is_member it.head) + length (field_item_violations ctx it) ≤ 3 * size it
+  field-item-bound : (it : Item (Rec N P)) → 3 * one (is_member it.head) + length (field_item_violations ctx it) ≤ most_per_record * size it
   unfolding field_item_violations
   field-item-bound it =
       let k = it.head.kind in
@@ -106,13 +106,13 @@ module _ {N P : Type 0} (ctx : ValidationContext N P) where
         field_bound ctx it.rest,
       ))
 
-  field-list-bound : (rs : List (Rec N P)) → length (field_list_violations ctx rs) ≤ 3 * length rs
+  field-list-bound : (rs : List (Rec N P)) → length (field_list_violations ctx rs) ≤ most_per_record * length rs
   unfolding field_list_violations
   field-list-bound = list-bound 3 3 field_scheme (field_item_violations ctx) (le_refl 3) field-item-bound starts_field_item
 
   -- a variant breaks two rules, and its fields theirs
   variant-bound : (it : Item (Rec N P)) →
-      2 * one (is_member it.head) + length (only_if (is Kind.Variant it.head) (field_list_violations ctx it.rest)) ≤ 3 * size it
+      2 * one (is_member it.head) + length (only_if (is Kind.Variant it.head) (field_list_violations ctx it.rest)) ≤ most_per_record * size it
   variant-bound it =
       omega (
         arith,
@@ -125,7 +125,7 @@ module _ {N P : Type 0} (ctx : ValidationContext N P) where
   bare-bound : (it : Item (Rec N P)) → 2 * one (is_member it.head) + 0 ≤ 2 * size it
   bare-bound it = omega (arith, one-bound (is_member it.head))
 
-  enum-bound : (body : List (Rec N P)) → length (enum_violations ctx body) ≤ 3 * length body
+  enum-bound : (body : List (Rec N P)) → length (enum_violations ctx body) ≤ most_per_record * length body
   unfolding enum_violations
   enum-bound body =
       rw
@@ -140,15 +140,15 @@ module _ {N P : Type 0} (ctx : ValidationContext N P) where
         length-select (is Kind.Backing) body,
       ))
 
-  flags-bound : (body : List (Rec N P)) → length (flags_violations ctx body) ≤ 3 * length body
+  flags-bound : (body : List (Rec N P)) → length (flags_violations ctx body) ≤ most_per_record * length body
   unfolding flags_violations
   flags-bound body = omega (arith, list-bound 2 2 flags_scheme (λ it. []) (omega arith) bare-bound starts_item body)
 
-  union-bound : (body : List (Rec N P)) → length (union_violations ctx body) ≤ 3 * length body
+  union-bound : (body : List (Rec N P)) → length (union_violations ctx body) ≤ most_per_record * length body
   unfolding union_violations
   union-bound = list-bound 2 3 union_scheme _ (le_refl 2) variant-bound starts_item
 
-  newtype-bound : (body : List (Rec N P)) → length (newtype_violations ctx body) ≤ 3 * length body
+  newtype-bound : (body : List (Rec N P)) → length (newtype_violations ctx body) ≤ most_per_record * length body
   unfolding newtype_violations
   newtype-bound [] = zero-le
   newtype-bound (t ∷ rs) =
@@ -160,7 +160,7 @@ module _ {N P : Type 0} (ctx : ValidationContext N P) where
         one-bound (is Kind.Named t && declared_as ctx Sub.Config t.name),
       ))
 
-  body-bound : (b : Body) (rs : List (Rec N P)) → length (body_violations ctx b rs) ≤ 3 * length rs
+  body-bound : (b : Body) (rs : List (Rec N P)) → length (body_violations ctx b rs) ≤ most_per_record * length rs
   unfolding body_violations
   body-bound message_body = field-list-bound
   body-bound enum_body = enum-bound
@@ -168,20 +168,20 @@ module _ {N P : Type 0} (ctx : ValidationContext N P) where
   body-bound union_body = union-bound
   body-bound newtype_body = newtype-bound
 
-  violations-bound : (rs : List (Rec N P)) → length (violations_of ctx rs) ≤ 3 * length rs
+  violations-bound : (rs : List (Rec N P)) → length (violations_of ctx rs) ≤ most_per_record * length rs
   unfolding violations_of
   violations-bound rs = go (rest (λ r. not (is Kind.Head r)) rs) (omega (arith, front-rest-length (λ r. not (is Kind.Head r)) rs))
     where
-      go : (own : List (Rec N P)) → length own ≤ length rs → length (declaration_violations ctx own) ≤ 3 * length rs
+      go : (own : List (Rec N P)) → length own ≤ length rs → length (declaration_violations ctx own) ≤ most_per_record * length rs
       go [] h = zero-le
       go (head ∷ body) h = omega (arith, body-bound (body_of head.sub) body)
 
 -- the total is at most three times the records
-pub total-bound : (sheet names : List ℕ) → length (full_list sheet names) ≤ 3 * length (records sheet names)
+pub total-bound : (sheet names : List ℕ) → length (full_list sheet names) ≤ most_per_record * length (records sheet names)
 unfolding full_list found_in
 total-bound sheet names = rw length-map (violations-bound (context_of (records sheet names)) (records sheet names))
 
--- so the total of an accepted sheet is at most 3,072,
+-- so the total of an accepted sheet is at most that for the records of the longest,
 pub accepted-total : (sheet names : List ℕ) → is_accepted sheet names ≡ true → length (full_list sheet names) ≤ max_total
 accepted-total sheet names h =
     omega (
@@ -191,6 +191,6 @@ accepted-total sheet names h =
       accepted-length sheet names h,
     )
 
--- and a buffer of 36,864 bytes holds its list
+-- and a buffer for so many holds its list
 pub list-fits : (sheet names : List ℕ) → is_accepted sheet names ≡ true → violation_size * length (full_list sheet names) ≤ max_list_size
 list-fits sheet names h = mul-le-mul_left violation_size (accepted-total sheet names h)

@@ -20,6 +20,7 @@ use Rattle.rules.specs.Types.{own_type_violations, types_violations, key_violati
 use Rattle.rules.specs.Annotations.{annotation_violations, combined_violations, duplicate_annotations, annotations_violations, limit_value_violations, has_reason, is_word, annotations_of, max_limit}
 use Rattle.rules.specs.Conditions.{Literals, operand_violations, own_condition_violations, condition_violations, operands_of, literals_of, length_literals}
 use Rattle.rules.specs.Bodies.{field_violations, type_part, annotation_part, condition_part, in_type, in_annotations}
+use Rattle.rules.specs.Answer.{most_per_record}
 use Rattle.rules.proofs.Joined.{length-select}
 use Rattle.rules.proofs.Lengths.{one, one-bound, one-and-left, one-or, one_apart, one-within, one-eqb, one_at, one-not, number_if-le, number_if-bound, length-only_if, only_if-bound, take_bound, front-rest-length, size, size-bound, items-size, flat_map-bound, flat_map-one}
 
@@ -178,7 +179,7 @@ module _ {N P : Type 0} (ctx : ValidationContext N P) where
         duplicate-annotations-bound (a.head.name ∷ names) anns,
       ))
 
-  annotations-bound : (ty rs : List (Rec N P)) → length (annotations_violations ctx ty rs) ≤ 3 * length rs
+  annotations-bound : (ty rs : List (Rec N P)) → length (annotations_violations ctx ty rs) ≤ most_per_record * length rs
   unfolding annotations_violations
   annotations-bound ty rs =
       let anns = annotations_of rs in
@@ -222,7 +223,7 @@ module _ {N P : Type 0} (ctx : ValidationContext N P) where
       )
 
   -- one of its own for a condition, and one for each of its operands
-  own-condition-bound : (ty : List (Rec N P)) (c : Rec N P) (rs : List (Rec N P)) → length (own_condition_violations ctx ty c rs) ≤ 3
+  own-condition-bound : (ty : List (Rec N P)) (c : Rec N P) (rs : List (Rec N P)) → length (own_condition_violations ctx ty c rs) ≤ most_per_record
   unfolding own_condition_violations
   own-condition-bound ty c rs =
       let k = c.kind in
@@ -242,12 +243,12 @@ module _ {N P : Type 0} (ctx : ValidationContext N P) where
         number_if-bound 2 0 (within Kind.LenCmp Kind.LenRange k) _ (operands-bound length_literals c rs),
       ))
 
-  condition-bound : (ty rs : List (Rec N P)) → length (condition_violations ctx ty rs) ≤ 3 * length rs
+  condition-bound : (ty rs : List (Rec N P)) → length (condition_violations ctx ty rs) ≤ most_per_record * length rs
   unfolding condition_violations
   condition-bound ty [] = zero-le
   condition-bound ty (c ∷ rs) = rw length-append (omega (arith, own-condition-bound ty c rs, condition-bound ty rs))
 
-  pub field_bound : (rs : List (Rec N P)) → length (field_violations ctx rs) ≤ 3 * length rs
+  pub field_bound : (rs : List (Rec N P)) → length (field_violations ctx rs) ≤ most_per_record * length rs
   unfolding field_violations
   field_bound rs =
       simp

@@ -7,7 +7,7 @@ use Rattle.rules.specs.Grammar.{max_depth}
 use Rattle.rules.specs.Refusals.{max_length, max_names_length, max_ordinal, max_records}
 use Rattle.rules.specs.Annotations.{max_limit}
 use Rattle.rules.specs.Bodies.{max_field_ordinal, max_u8_backing, max_u16_backing, max_u32_backing, max_u64_backing, max_bit}
-use Rattle.rules.specs.Answer.{max_total}
+use Rattle.rules.specs.Answer.{most_per_record, max_total}
 use Rattle.rules.specs.Buffer.{violation_size}
 
 limits-same :
@@ -25,5 +25,6 @@ limits-same :
     × (Sheet.MAX_BIT ≡ max_bit)
     × (Sheet.MAX_LIMIT ≡ max_limit)
     × (Violation.SIZE ≡ violation_size)
+    × (Violation.PER_RECORD ≡ most_per_record)
     × (Violation.MOST ≡ max_total)
-limits-same = (refl, refl, refl, refl, refl, refl, refl, refl, refl, refl, refl, refl, refl, refl, refl)
+limits-same = (refl, refl, refl, refl, refl, refl, refl, refl, refl, refl, refl, refl, refl, refl, refl, refl)

@@ -31,9 +31,13 @@ total_of vs = length vs
 abbrev pub errors_of : List Violation → ℕ
 errors_of vs = length (select (λ v. eqb v.severity error) vs)
 
--- the greatest total: "at most 3 times the records"
+-- "at most 3 times the records"
+abbrev pub most_per_record : ℕ
+most_per_record = 3
+
+-- the greatest total
 abbrev pub max_total : ℕ
-max_total = 3 * max_records
+max_total = most_per_record * max_records
 
 -- the sheet and the names text are accepted
 abbrev pub is_accepted : List ℕ → List ℕ → Bool

@@ -15,7 +15,7 @@ impl Sheet {
     // Row 1: the most bytes of a sheet.
     pub const MAX_LEN: usize = 32768;
     // So many records has the longest.
-    pub const MAX_RECORDS: usize = 1024;
+    pub const MAX_RECORDS: usize = Sheet::MAX_LEN / Sheet::RECORD;
     // Row 2: the most bytes of a names text.
     pub const MAX_NAMES_LEN: usize = 16384;
     // Row 5: the greatest ordinal.

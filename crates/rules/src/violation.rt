@@ -1,5 +1,6 @@
 // A violation: its class, its severity and where it was found. Class and severity are numbers and no enums, since the bytes of a list that are read back may be any
 // numbers; what the check tells is told by a `Rule`, which has both.
+use crate::sheet::Sheet;
 use crate::span::Span;
 
 #[derive(Clone, Copy)]
@@ -12,8 +13,10 @@ pub struct Violation {
 impl Violation {
     // The bytes of a written violation.
     pub const SIZE: usize = 12;
-    // The most that are told or recorded of a list: as many as 36,864 bytes hold.
-    pub const MOST: usize = 3072;
+    // The most for each record of a sheet.
+    pub const PER_RECORD: usize = 3;
+    // The most that are told or recorded of a list: those of the longest sheet.
+    pub const MOST: usize = Violation::PER_RECORD * Sheet::MAX_RECORDS;
 
     // The severities.
     pub const ERROR: u8 = 0;

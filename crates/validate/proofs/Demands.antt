@@ -154,7 +154,7 @@ module _ (sheet names old : List ℕ) (r : AnswerValues) (exit : List ℕ) (call
       ≡ distinct_untombstoned (records sheet names) + occurrences (is_in_class OrdinalDuplicate) (decode_list r.total exit)
   counted-decoded bytes h room = rw (list-decoded bytes h room) (counted sheet names (zero-accepted h))
 
-  -- A buffer of 36,864 bytes or more always holds the total
+  -- A buffer with room for the longest list always holds the total
   pub total-held : r.number ≡ 0 → max_list_size ≤ length old → violation_size * r.total ≤ length old
   total-held h room = rw (full-total h) (le_trans (list-fits sheet names (zero-accepted h)) room)
 
