@@ -10,9 +10,13 @@ use Rattle.rules.specs.Printed.{decimal, violation_line, counts_line, refusal_li
 abbrev pub told_of : ℕ → ℕ → ℕ
 told_of total len = min max_total (written_of total len)
 
--- the bytes of the longest text: so many violations and the counts, a line of at most 35 bytes for each
+-- the bytes of the longest line
+abbrev pub max_line : ℕ
+max_line = 35
+
+-- the bytes of the longest text: so many violations and the counts, a line for each
 abbrev pub max_text : ℕ
-max_text = 35 * (max_total + 1)
+max_text = max_line * (max_total + 1)
 
 -- the lines of the first n violations of a list
 unfoldable pub violation_lines : ℕ → List ℕ → List ℕ

@@ -1,8 +1,9 @@
 // The lines, each put behind a text whose buffer has room for the longest such line.
 ghost use Rattle.std.specs.Prelude.{◌≡◌, ◌+◌, ◌*◌, ◌≤◌, length};
+ghost use Rattle.rules.specs.Buffer.{violation_size};
 ghost use Rattle.rules.specs.Printed.{severity_letter, violation_line};
 ghost use Rattle.report.specs.Put.{Adds};
-ghost use Rattle.report.specs.Lines.{pair_line, violation_lines};
+ghost use Rattle.report.specs.Lines.{max_line, pair_line, violation_lines};
 
 use crate::decode::violation;
 use crate::text::Text;
@@ -21,9 +22,9 @@ fn severity_letter(severity: u8) -> u8
 
 // Puts the line of a violation: class, letter, offset and length.
 fn put_violation(text: &mut Text, violation: Violation)
-    requires { text.old.len + 35 ≤ length text.old.buffer.now }
+    requires { text.old.len + max_line ≤ length text.old.buffer.now }
     ensures adds { Adds text.old text.new (violation_line violation) }
-    ensures short { text.new.len ≤ text.old.len + 35 }
+    ensures short { text.new.len ≤ text.old.len + max_line }
 {
     text.put_decimal(u32::from(violation.class));
     text.put(b" ");
@@ -39,9 +40,9 @@ fn put_violation(text: &mut Text, violation: Violation)
 // many violations it has passed, so that the proof that one line more has room did not close.
 #[tactic(auto, using(crate::proofs::LineTexts::lines_none), unfolding(crate::specs::Put::put))]
 pub fn put_violations(text: &mut Text, list: &[u8], n: usize)
-    requires { (text.old.len + 35 * n ≤ length text.old.buffer.now) × (12 * n ≤ length list.now) }
+    requires { (text.old.len + max_line * n ≤ length text.old.buffer.now) × (violation_size * n ≤ length list.now) }
     ensures adds { Adds text.old text.new (violation_lines n list.now) }
-    ensures short { text.new.len ≤ text.old.len + 35 * n }
+    ensures short { text.new.len ≤ text.old.len + max_line * n }
 {
     for i in 0..n {
         put_violation(text, violation(&list[Violation::SIZE * i..]));
