@@ -102,7 +102,7 @@ impl Due {
     }
 
     // One part is due, of depth 1.
-    pub fn begin(&mut self, part: Part)
+    pub(crate) fn begin(&mut self, part: Part)
         ensures { self.new ≡ due_at 1 (part_in part) ∷ [] }
     {
         self.entries[0] = Entry { depth: 1, part };
@@ -139,7 +139,7 @@ impl Due {
 
     // The first part that is due: the record, if it is such a part.
     #[tactic(auto, using(crate::proofs::PartSteps::step_other))]
-    pub fn part_step(&mut self, kind: u8) -> Result<(), Refusal>
+    pub(crate) fn part_step(&mut self, kind: u8) -> Result<(), Refusal>
         ensures { part_step_of result self.new ≡ part_step self.old (bare kind 0) }
     {
         in_order(self.is_first(kind))?;

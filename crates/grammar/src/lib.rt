@@ -7,5 +7,5 @@ mod machine;
 mod order;
 mod state;
 
-pub use due::{Due, Part};
+pub use due::Due;
 pub use state::{Body, Item, State};

@@ -9,10 +9,10 @@ ghost use Rattle.names.specs.SameEnds.{with_target};
 use rules::Sheet;
 use std::marker::Model;
 
-// Five numbers for each record, and two for the sheet. A place is a record's index and one more; 0 is none. Any numbers are a
-// table: it says what it is asked, and is right once it is filled, which this crate alone does. An import and a wildcard are numbers too, 1 where there is one: they stand in the definition's
-// list of numbers, and `entry` and `is_zero` read all parts alike; of a `bool` each law of the view would have to make a number. The parts stand side by side
-// and not in one array of structs: `is_silent` looks through two of them, and the definition's list has one after the other.
+// Five numbers for each record, and two for the sheet. A place is a record's index and one more; 0 is none. Any numbers are a table: it says what it is asked, and
+// is right once it is filled, which this crate alone does. An import and a wildcard are numbers too, 1 where there is one: they stand in the definition's list of
+// numbers, and `entry` and `is_zero` read all parts alike; of a `bool` each law of the view would have to make a number. The parts stand side by side and not in
+// one array of structs: `is_silent` looks through two of them, and the definition's list has one after the other.
 #[derive(Drop)]
 pub struct NameTable {
     ids: [u16; Sheet::MAX_RECORDS],

@@ -36,7 +36,7 @@ module _ {N P : Type 0} where
 abbrev pub fault_of : Refused → Fault
 fault_of why = record { number = number_of why.refusal; index = why.index }
 
--- of the records before record i those from `end` on are no newtypes
+-- of the records before record i those from `end` on rename no type
 pub record Ended (sheet : List ℕ) (end i : ℕ) : Type 0 where
   pub within : end ≤ i
   pub none : (j : ℕ) → end ≤ j → j < i → is_renaming (view_at sheet j) ≡ false

@@ -30,7 +30,7 @@ abbrev pub at : Body → Item → State
 at body item = record { body = body; item = item }
 
 -- What is to find from record r on, with the parts that are due after, is what was to find from record i on, with those that were due before. No record
--- between is a newtype.
+-- between renames a type.
 pub record Ran (sheet names : List ℕ) (s : State) (before after : List Due) (i r : ℕ) : Type 0 where
   pub least : i ≤ r
   pub most : r ≤ length sheet / record_size

@@ -66,7 +66,7 @@ fn record_step(
     grammar_step(bytes, table, due, state, i)
 }
 
-// Where the newtypes end that come before record `i` or are record `i`.
+// Where the declarations end that rename a type, up to record `i`.
 #[tactic(auto, using(crate::proofs::Passes::ends_here, crate::proofs::Passes::ends_after))]
 fn newtypes_end(sheet: &[u8], end: usize, i: usize) -> usize
     requires { Ended sheet.now end i × (i < max_records) }
