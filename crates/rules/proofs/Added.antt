@@ -11,8 +11,7 @@ use Rattle.rules.specs.Record.{Rec}
 use Rattle.rules.specs.Context.{ValidationContext}
 use Rattle.rules.specs.Rule.{Found}
 use Rattle.rules.specs.Bodies.{Scheme, Slot, is_member, slots, slot_of, retired_ordinal, retired_ordinals, list_violations}
-use Rattle.rules.specs.Items.{Added, added-nil, keep, new}
-use Rattle.rules.proofs.Occurrences.{tally}
+use Rattle.rules.specs.Items.{Added, added-nil, keep, new, occurrences}
 use Rattle.rules.proofs.ItemCounts.{Known, after, known, rule_tally, member_tally, items_tally, list-tally, any-slots}
 
 pub number-le : (b b' : Bool) (w : ℕ) → (b ≡ true → b' ≡ true) → number_if b w ≤ number_if b' w
@@ -87,7 +86,7 @@ module _ {N P : Type 0} {R : Item (Rec N P) → Item (Rec N P) → Type 0} (head
         }
 
     -- a scheme whose rules for tombstoned and for repeated ordinals count alike
-    module _ (p : ℕ → Bool) (s : Scheme) (alike : tally p s.tombstoned ≡ tally p s.repeated) where
+    module _ (p : ℕ → Bool) (s : Scheme) (alike : occurrences p s.tombstoned ≡ occurrences p s.repeated) where
       member-le :
           {k k' : Known N} {r r' : Rec N P} →
           Grown k k' → r ≡ r' → number_if (is_member r) (member_tally ctx p s k r) ≤ number_if (is_member r') (member_tally ctx p s k' r')
@@ -98,11 +97,11 @@ module _ {N P : Type 0} {R : Item (Rec N P) → Item (Rec N P) → Type 0} (head
           by-test false = omega arith
           by-test true =
               let v = r'.value in
-              let w = tally p s.repeated in
+              let w = occurrences p s.repeated in
               let before = either_number (k.gone v) (k.met v) w in
               let now = either_number (k'.gone v) (k'.met v) w in
               let ordinal = number-le (k.gone v || k.met v) (k'.gone v || k'.met v) w (g.ordinals v) in
-              let name = number-le (k.seen r'.name) (k'.seen r'.name) (tally p s.renamed) (g.names r'.name) in
+              let name = number-le (k.seen r'.name) (k'.seen r'.name) (occurrences p s.renamed) (g.names r'.name) in
               rw alike (omega arith)
 
       added-items :

@@ -14,7 +14,7 @@ use Rattle.rules.specs.Rule.{Found, found_if, rule_row, OrdinalDuplicate, Ordina
 use Rattle.rules.specs.Bodies.{field_scheme, enum_scheme, flags_scheme, union_scheme, backing_max, used_ordinal, used_ordinals, slots, field_items, body_items, field_item_violations, field_list_violations, backing_violations, enum_violations, flags_violations, union_violations, body_violations}
 use Rattle.rules.specs.Answer.{is_accepted, full_list}
 use Rattle.rules.specs.Items.{starts_in, Added, FieldsAdded, SameButAdded, occurrences, is_in_class}
-use Rattle.rules.proofs.Occurrences.{tally-cons, tally-append}
+use Rattle.rules.proofs.Occurrences.{occurrences-cons, occurrences-append}
 use Rattle.rules.proofs.ItemCounts.{by_rule, rule_tally, found-tally}
 use Rattle.rules.proofs.Cut.{cut_item, field_items-cut}
 use Rattle.rules.proofs.Added.{number-le, added-map, added-slots, added-list}
@@ -43,7 +43,7 @@ module _ {N P : Type 0} (ctx : ValidationContext N P) (p : ℕ → Bool) (alike 
       ctx
       p
       field_scheme
-      (tally-cons p 3 [] ∙ rw alike (sym (tally-cons p 4 [])))
+      (occurrences-cons p 3 [] ∙ rw alike (sym (occurrences-cons p 4 [])))
       (field_item_violations ctx)
       (λ a b r. rw r (omega arith))
       m
@@ -61,7 +61,7 @@ module _ {N P : Type 0} (ctx : ValidationContext N P) (p : ℕ → Bool) (alike 
   flat_map-le f g h (x ∷ xs) =
       let first = h x in
       let others = flat_map-le f g h xs in
-      rw (tally-append (by_rule p) (f x) (flat_map f xs), tally-append (by_rule p) (g x) (flat_map g xs)) (omega arith)
+      rw (occurrences-append (by_rule p) (f x) (flat_map f xs), occurrences-append (by_rule p) (g x) (flat_map g xs)) (omega arith)
 
   backing-added :
       (xs ys : List (Rec N P)) →
@@ -86,7 +86,7 @@ module _ {N P : Type 0} (ctx : ValidationContext N P) (p : ℕ → Bool) (alike 
   body-added enum_body xs ys m beside =
       let own = added-list (λ a b r. r.head) ctx p enum_scheme refl (λ it. []) (λ a b r. omega arith) m in
       let backing = backing-added xs ys beside m in
-      simp tally-append (omega arith)
+      simp occurrences-append (omega arith)
   body-added flags_body xs ys m beside =
       added-list (λ a b r. r.head) ctx p flags_scheme refl (λ it. []) (λ a b r. omega arith) m
   body-added union_body xs ys m beside =

@@ -29,7 +29,8 @@ use Rattle.rules.proofs.Accepted.{Parts, accepted-parts}
 use Rattle.rules.proofs.Lead.{from-head, body-from-head, items-from-head}
 use Rattle.rules.proofs.BodyKinds.{EnumBody, FlagsBody, NewtypeBody, UnionItem, BodyHas, accepted-body}
 use Rattle.rules.proofs.AcceptedSheet.{accepted-clean}
-use Rattle.rules.proofs.Lengths.{one, length-only_if}
+use Rattle.rules.proofs.Lengths.{one}
+use Rattle.rules.proofs.Occurrences.{occurrences-map}
 use Rattle.rules.proofs.Repeats.{is_repeat, repeats, repeats-nil, enum-quiet, flags-quiet, newtype-quiet, variant_repeats, union-repeats}
 use Rattle.rules.proofs.FieldListCounted.{fields-cons, list_counted}
 
@@ -173,9 +174,8 @@ module _ {N P : Type 0} (ctx : ValidationContext N P) where
 
 -- the violations that tell of a repeated ordinal are those of the two classes
 class-repeats : (fs : List (Found Span)) → occurrences (is_in_class OrdinalDuplicate) (map violation fs) ≡ repeats fs
-unfolding occurrences repeats select is_repeat
-class-repeats [] = refl
-class-repeats (f ∷ fs) = simp (length-append, length-only_if) (ap (λ n. one (is_repeat f.rule) + n) (class-repeats fs))
+unfolding repeats is_repeat
+class-repeats = occurrences-map violation (is_in_class OrdinalDuplicate)
 
 -- every field of an accepted sheet is a distinct untombstoned ordinal of its list, or has a violation of one of the two classes
 pub counted : (sheet names : List ℕ) → is_accepted sheet names ≡ true →

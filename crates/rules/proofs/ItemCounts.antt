@@ -11,7 +11,8 @@ use Rattle.rules.specs.Record.{Rec}
 use Rattle.rules.specs.Context.{ValidationContext}
 use Rattle.rules.specs.Rule.{Found, found_if}
 use Rattle.rules.specs.Bodies.{Scheme, Slot, found_all, is_member, slot_of, slots, retired_ordinals, member_violations, items_violations, list_violations}
-use Rattle.rules.proofs.Occurrences.{tally, tally-cons, tally-append, any-flat_map}
+use Rattle.rules.specs.Items.{occurrences}
+use Rattle.rules.proofs.Occurrences.{occurrences-cons, occurrences-append, any-flat_map}
 
 -- what bears on an item: the tombstoned ordinals, and the ordinals and names of the items before it
 pub record Known (N : Type 0) : Type 0 where
@@ -45,31 +46,31 @@ module _ {P : Type 0} (p : ℕ → Bool) where
 
   -- how many violations are
   abbrev pub rule_tally : List (Found P) → ℕ
-  rule_tally = tally by_rule
+  rule_tally = occurrences by_rule
 
   pub found-tally : (rule : ℕ) (bad : Bool) (place : P) → rule_tally (found_if rule bad place) ≡ number_if bad (number_if (p rule) 1)
-  unfolding tally select
+  unfolding occurrences select
   found-tally rule false place = refl
-  found-tally rule true place = tally-cons by_rule (record { rule = rule; place = place }) [] ∙ omega arith
+  found-tally rule true place = occurrences-cons by_rule (record { rule = rule; place = place }) [] ∙ omega arith
 
-  found_all-tally : (rules : List ℕ) (bad : Bool) (place : P) → rule_tally (found_all rules bad place) ≡ number_if bad (tally p rules)
-  unfolding tally select flat_map
+  found_all-tally : (rules : List ℕ) (bad : Bool) (place : P) → rule_tally (found_all rules bad place) ≡ number_if bad (occurrences p rules)
+  unfolding occurrences select flat_map
   found_all-tally [] true place = refl
   found_all-tally [] false place = refl
   found_all-tally (rule ∷ rules) true place =
-      tally-append by_rule (found_if rule true place) (found_all rules true place)
+      occurrences-append by_rule (found_if rule true place) (found_all rules true place)
       ∙ ap₂ ◌+◌ (found-tally rule true place) (found_all-tally rules true place)
-      ∙ sym (tally-cons p rule rules)
+      ∙ sym (occurrences-cons p rule rules)
   found_all-tally (rule ∷ rules) false place = found_all-tally rules false place
 
 module _ {N P : Type 0} (ctx : ValidationContext N P) (p : ℕ → Bool) (s : Scheme) where
   -- how many violations of the scheme there are at a record
   unfoldable pub member_tally : Known N → Rec N P → ℕ
   member_tally k r =
-      number_if (ltb s.greatest r.value) (tally p s.over)
-      + number_if (k.gone r.value) (tally p s.tombstoned)
-      + number_if (not (k.gone r.value) && k.met r.value) (tally p s.repeated)
-      + number_if (k.seen r.name) (tally p s.renamed)
+      number_if (ltb s.greatest r.value) (occurrences p s.over)
+      + number_if (k.gone r.value) (occurrences p s.tombstoned)
+      + number_if (not (k.gone r.value) && k.met r.value) (occurrences p s.repeated)
+      + number_if (k.seen r.name) (occurrences p s.renamed)
 
   -- how many there are along items, each with a number of its own
   unfoldable pub items_tally : (Item (Rec N P) → ℕ) → Known N → List (Item (Rec N P)) → ℕ
@@ -83,13 +84,13 @@ module _ {N P : Type 0} (ctx : ValidationContext N P) (p : ℕ → Bool) (s : Sc
       (gone met : List ℕ) (names : List N) (r : Rec N P) →
       rule_tally p (member_violations ctx s gone met names r) ≡ member_tally (known ctx gone met names) r
   unfolding member_violations member_tally
-  member-tally gone met names r = simp (tally-append, found_all-tally)
+  member-tally gone met names r = simp (occurrences-append, found_all-tally)
 
   items-tally :
       (own : Item (Rec N P) → List (Found P)) (gone met : List ℕ) (names : List N) (its : List (Item (Rec N P))) →
       rule_tally p (items_violations ctx s own gone met names its)
       ≡ items_tally (λ it. rule_tally p (own it)) (known ctx gone met names) its
-  unfolding items_violations items_tally any_of tally select
+  unfolding items_violations items_tally any_of occurrences select
   items-tally own gone met names [] = refl
   items-tally own gone met names (it ∷ its) =
       by-test
@@ -114,8 +115,8 @@ module _ {N P : Type 0} (ctx : ValidationContext N P) (p : ℕ → Bool) (s : Sc
             | false ↦ own it ++ items_violations ctx s own gone met names its
           ])
           ≡ number_if counts (member_tally (known ctx gone met names) it.head) + rule_tally p (own it) + later counts
-      by-test true e d = simp (tally-append, member-tally gone met names it.head, e)
-      by-test false e d = simp (tally-append, d) (omega arith)
+      by-test true e d = simp (occurrences-append, member-tally gone met names it.head, e)
+      by-test false e d = simp (occurrences-append, d) (omega arith)
 
   -- along a whole list nothing was met before
   pub list-tally :

@@ -14,8 +14,7 @@ use Rattle.rules.specs.Record.{Rec}
 use Rattle.rules.specs.Context.{ValidationContext}
 use Rattle.rules.specs.Rule.{Found}
 use Rattle.rules.specs.Bodies.{Scheme, Slot, is_member, slots, slot_of, retired_ordinal, retired_ordinals, list_violations}
-use Rattle.rules.specs.Items.{Moved, moved-nil, stay, swap, and_then}
-use Rattle.rules.proofs.Occurrences.{tally}
+use Rattle.rules.specs.Items.{Moved, moved-nil, stay, swap, and_then, occurrences}
 use Rattle.rules.proofs.ItemCounts.{Known, or_also, after, known, rule_tally, member_tally, items_tally, list-tally, any-slots}
 
 -- elements that pass the test are equal
@@ -97,8 +96,8 @@ module _ {N P : Type 0} {R : Item (Rec N P) → Item (Rec N P) → Type 0} (head
         ≡ number_if c' (member_tally ctx p s k r') + number_if c (member_tally ctx p s (after ctx c' r' k) r)
     unfolding member_tally
     members-swap k r r' true true =
-        let ordinals = repeats-swap eqb-true (λ n. not (k.gone n)) k.met r.value r'.value (tally p s.repeated) in
-        let names = repeats-swap tells (λ x. true) k.seen r.name r'.name (tally p s.renamed) in omega arith
+        let ordinals = repeats-swap eqb-true (λ n. not (k.gone n)) k.met r.value r'.value (occurrences p s.repeated) in
+        let names = repeats-swap tells (λ x. true) k.seen r.name r'.name (occurrences p s.renamed) in omega arith
     members-swap k r r' true false = omega arith
     members-swap k r r' false true = omega arith
     members-swap k r r' false false = refl

@@ -13,7 +13,7 @@ use Rattle.rules.specs.Rule.{Found, found_if}
 use Rattle.rules.specs.Bodies.{field_scheme, enum_scheme, flags_scheme, union_scheme, backing_max, used_ordinal, used_ordinals, slots, field_items, body_items, field_item_violations, field_list_violations, backing_violations, enum_violations, flags_violations, union_violations, newtype_violations, body_violations}
 use Rattle.rules.specs.Answer.{is_accepted, full_list}
 use Rattle.rules.specs.Items.{starts_in, Moved, FieldsMoved, SameButOrder, occurrences, is_like}
-use Rattle.rules.proofs.Occurrences.{tally-append}
+use Rattle.rules.proofs.Occurrences.{occurrences-append}
 use Rattle.rules.proofs.ItemCounts.{rule_tally}
 use Rattle.rules.proofs.Cut.{cut_item, field_items-cut}
 use Rattle.rules.proofs.SameLead.{SameBesideItems}
@@ -68,7 +68,7 @@ module _ {N P : Type 0} (ctx : ValidationContext N P) (tells : Tells ctx.same) (
   body-moved message_body xs ys m beside = field-list-moved xs ys (whole-moved xs ys m)
   body-moved enum_body xs ys m beside =
       let own = moved-list (λ a b r. r.head) ctx tells p enum_scheme (λ it. []) (λ a b r. refl) m in
-      simp (tally-append, own, backing-moved xs ys beside m)
+      simp (occurrences-append, own, backing-moved xs ys beside m)
   body-moved flags_body xs ys m beside =
       moved-list (λ a b r. r.head) ctx tells p flags_scheme (λ it. []) (λ a b r. refl) m
   body-moved union_body xs ys m beside =

@@ -5,7 +5,6 @@ use native.Mathlib.Omega.{arith}
 use mathlib.Core.Path.{◌≡◌, refl, ◌∙◌}
 use mathlib.Core.Bool.{Bool, true, false, ◌&&◌}
 use mathlib.Core.List.{List, [], ◌∷◌, ◌++◌, map, flat_map, append-nil}
-use lib.ListN.{length, length-append}
 use lib.Dec.{eqb, ltb}
 use Rattle.rules.specs.Words.{only_if, number_if, any_of, select, Item}
 use Rattle.rules.specs.Kind
@@ -16,8 +15,9 @@ use Rattle.rules.specs.Types.{own_type_violations, types_violations, checked_par
 use Rattle.rules.specs.Annotations.{annotation_violations, combined_violations, duplicate_annotations, annotations_violations, limit_value_violations}
 use Rattle.rules.specs.Conditions.{Literals, literals_of, length_literals, operand_violations, own_condition_violations, condition_violations}
 use Rattle.rules.specs.Bodies.{is_member, slots, used_ordinals, retired_ordinals, body_items, backing_max, Scheme, enum_scheme, flags_scheme, union_scheme, member_violations, items_violations, field_violations, field_item_violations, field_list_violations, enum_violations, flags_violations, union_violations, newtype_violations}
-use Rattle.rules.specs.Items.{sum_of}
-use Rattle.rules.proofs.Joined.{select-append}
+use Rattle.rules.specs.Items.{sum_of, occurrences}
+use Rattle.rules.proofs.Occurrences.{occurrences-append}
+use Rattle.rules.proofs.ItemCounts.{by_rule, rule_tally}
 use Rattle.rules.proofs.Lengths.{one, length-only_if}
 
 -- the rule is of class OrdinalDuplicate or OrdinalReusedAfterRemoved
@@ -32,23 +32,23 @@ number_if-zero false = refl
 module _ {P : Type 0} where
   -- how many of the violations tell of a repeated ordinal
   unfoldable pub repeats : List (Found P) → ℕ
-  repeats fs = length (select (λ f. is_repeat f.rule) fs)
+  repeats = rule_tally is_repeat
 
   pub repeats-append : (xs ys : List (Found P)) → repeats (xs ++ ys) ≡ repeats xs + repeats ys
   unfolding repeats
-  repeats-append xs ys = rw (select-append, length-append)
+  repeats-append = occurrences-append (by_rule is_repeat)
 
   pub repeats-only_if : (b : Bool) (xs : List (Found P)) → repeats (only_if b xs) ≡ number_if b (repeats xs)
-  unfolding repeats select
+  unfolding repeats occurrences select
   repeats-only_if true xs = refl
   repeats-only_if false xs = refl
 
   pub repeats-one : (rule : ℕ) (place : P) → repeats (record { rule = rule; place = place } ∷ []) ≡ one (is_repeat rule)
-  unfolding repeats select
+  unfolding repeats occurrences select
   repeats-one rule place = rw (append-nil, length-only_if)
 
 pub repeats-nil : (P : Type 0) → repeats {P = P} [] ≡ 0
-unfolding repeats select
+unfolding repeats occurrences select
 repeats-nil P = refl
 
 -- parts without any have none together

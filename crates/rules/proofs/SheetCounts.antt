@@ -17,7 +17,7 @@ use Rattle.rules.specs.Items.{starts_in, lead_of, items_of, occurrences}
 use Rattle.rules.proofs.Accepted.{accepted-parts}
 use Rattle.rules.proofs.AcceptedSheet.{accepted-clean}
 use Rattle.rules.proofs.Lead.{context-of-lead}
-use Rattle.rules.proofs.Occurrences.{tally, tally-map}
+use Rattle.rules.proofs.Occurrences.{occurrences-map}
 use Rattle.rules.proofs.ItemCounts.{rule_tally}
 use Rattle.rules.proofs.SameLead.{SameBesideItems, same-frame}
 
@@ -34,10 +34,10 @@ module _ (q : ℕ → ℕ → Bool) where
       (sheet names : List ℕ) (head : Rec (List ℕ) Span) (body : List (Rec (List ℕ) Span)) →
       rest (λ r. not (is Kind.Head r)) (records sheet names) ≡ head ∷ body →
       occurrences by_kind (full_list sheet names) ≡ rule_tally of_rule (body_violations (context_of (records sheet names)) (body_of head.sub) body)
-  unfolding occurrences full_list found_in violations_of tally
+  unfolding full_list found_in violations_of
   sheet-tally sheet names head body e =
       let ctx = context_of (records sheet names) in
-      tally-map violation by_kind (violations_of ctx (records sheet names))
+      occurrences-map violation by_kind (violations_of ctx (records sheet names))
       ∙ ap (λ rs. rule_tally of_rule (declaration_violations ctx rs)) e
 
   module _ (◌~◌ : ℕ → ℕ → Type 0) (◌≈◌ : List (Item (Rec (List ℕ) Span)) → List (Item (Rec (List ℕ) Span)) → Type 0) where

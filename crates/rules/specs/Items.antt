@@ -106,14 +106,14 @@ sum_of (n ∷ ns) = n + sum_of ns
 abbrev pub distinct_untombstoned : {N P : Type 0} → List (Rec N P) → ℕ
 distinct_untombstoned rs = sum_of (map (λ its. distinct (untombstoned its)) (field_lists rs))
 
--- how many violations of a list pass the test
-unfoldable pub occurrences : (Violation → Bool) → List Violation → ℕ
-occurrences p vs = length (select p vs)
+-- how many elements of a list pass the test
+unfoldable pub occurrences : {A : Type 0} → (A → Bool) → List A → ℕ
+occurrences p xs = length (select p xs)
 
--- of that class and severity
+-- a violation of that class and severity
 abbrev pub is_like : ℕ → ℕ → Violation → Bool
 is_like class severity v = eqb v.class class && eqb v.severity severity
 
--- of that class, where OrdinalDuplicate and OrdinalReusedAfterRemoved are counted together, as OrdinalDuplicate
+-- a violation of that class, where OrdinalDuplicate and OrdinalReusedAfterRemoved are counted together, as OrdinalDuplicate
 abbrev pub is_in_class : ℕ → Violation → Bool
 is_in_class class v = eqb (elim (eqb v.class OrdinalReusedAfterRemoved) [ true ↦ OrdinalDuplicate | false ↦ v.class ]) class
