@@ -54,14 +54,18 @@ unfolding records
 length-records sheet names = rw (length-map, length-pieces)
 
 -- the record at place i is what its bytes decode to
-pub records-at : (sheet names : List ℕ) (i : ℕ) (d : Rec (List ℕ) Span) → i < length sheet / 32 → get_or (records sheet names) i d ≡ decode names (record_bytes sheet i)
+pub records-at :
+    (sheet names : List ℕ) (i : ℕ) (d : Rec (List ℕ) Span) → i < length sheet / 32 →
+    get_or (records sheet names) i d ≡ decode names (record_bytes sheet i)
 unfolding records
 records-at sheet names i d h =
     get_d_map (decode names) (pieces (length sheet / 32) sheet) i d [] (rw length-pieces h)
     ∙ ap (decode names) (pieces-at (length sheet / 32) i sheet [] h)
 
 -- from place i on: that record, and the records from the next place on
-pub records-drop : (sheet names : List ℕ) (i : ℕ) → i < length sheet / 32 → drop i (records sheet names) ≡ decode names (record_bytes sheet i) ∷ drop (i + 1) (records sheet names)
+pub records-drop :
+    (sheet names : List ℕ) (i : ℕ) → i < length sheet / 32 →
+    drop i (records sheet names) ≡ decode names (record_bytes sheet i) ∷ drop (i + 1) (records sheet names)
 records-drop sheet names i h =
     let d : Rec (List ℕ) Span = decode names [] in
     rw (drop-cons (records sheet names) i d (rw length-records h), records-at sheet names i d h, add-one)

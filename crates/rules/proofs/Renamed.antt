@@ -88,7 +88,9 @@ pub record Alike {M N P : Type 0} (g : M → N) (Good Worded Spelled : M → Typ
   pub is_valid_field_name : (m : M) → Spelled m → ctx.is_valid_field_name (g m) ≡ ctx'.is_valid_field_name m
 
 -- a record of a kind with a name has one, and passes the test that its kind passes
-pub named : {N P : Type 0} (test : ℕ → Bool) (k : ℕ) → member k Kind.with_name ≡ true → test k ≡ true → (r : Rec N P) → is k r ≡ true → has_name_of test r ≡ true
+pub named :
+    {N P : Type 0} (test : ℕ → Bool) (k : ℕ) → member k Kind.with_name ≡ true → test k ≡ true →
+    (r : Rec N P) → is k r ≡ true → has_name_of test r ≡ true
 named test k h t r e = rw (eqb-true r.kind k e, h, t)
 
 module _ {M N P : Type 0} {g : M → N} {Good Worded Spelled : M → Type 0} {ctx : ValidationContext N P} {ctx' : ValidationContext M P}

@@ -141,7 +141,10 @@ module _ {M N P : Type 0} {g : M → N} {Good Worded Spelled : M → Type 0} {ct
       {body : List (Rec M P)} → Every (WellNamed Good Worded Spelled) body →
       enum_violations ctx (map (renamed g) body) ≡ enum_violations ctx' body
   unfolding enum_violations
-  enum-renamed {body} h = ap₂ ◌++◌ (body-items-renamed enum_scheme (λ it. []) (λ it. []) starts_item (λ it w. refl) (λ r starts. unruled r) h) (backing-renamed h)
+  enum-renamed {body} h =
+      ap₂ ◌++◌
+      (body-items-renamed enum_scheme (λ it. []) (λ it. []) starts_item (λ it w. refl) (λ r starts. unruled r) h)
+      (backing-renamed h)
 
   flags-renamed :
       {body : List (Rec M P)} → Every (WellNamed Good Worded Spelled) body →

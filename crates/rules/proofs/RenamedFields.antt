@@ -211,7 +211,9 @@ module _ {M N P : Type 0} {g : M → N} {Good Worded Spelled : M → Type 0} {ct
       annotations_violations ctx (map (renamed g) ty) (map (renamed g) rs) ≡ annotations_violations ctx' ty rs
   unfolding annotations_violations
   annotations-renamed ty {rs} h =
-      let anns = every-items-as {R = GoodItem} (is Kind.Annotation) (λ it e w. record { good = w.head.1 e; worded = record { head = w.head.0; rest = every-as (λ r v. v.0) w.rest } }) h in
+      let anns = every-items-as {R = GoodItem} (is Kind.Annotation)
+      (λ it e w. record { good = w.head.1 e; worded = record { head = w.head.0; rest = every-as (λ r v. v.0) w.rest } })
+      h in
       let own = flat_map-same (map_item (renamed g)) _ (annotation_violations ctx' ty) (every-as (λ a w. annotation-renamed ty a w.worded) anns) in
       rw (items_map (renamed g) (is Kind.Annotation) rs) (λ i. combined-renamed anns i ++ own i ++ duplicates-renamed every-nil anns i)
 
@@ -265,5 +267,8 @@ module _ {M N P : Type 0} {g : M → N} {Good Worded Spelled : M → Type 0} {ct
       rw (front-map (renamed g) in_annotations rs, rest-map (renamed g) in_annotations rs)
       (rw (front-map (renamed g) in_type later, rest-map (renamed g) in_type later)
       (λ i. types-renamed (true ∷ []) (every_front in_type (every_rest in_annotations h)) i
-      ++ annotations-renamed (type_part rs) (every-front-as in_annotations (λ r e w. (w.worded (annotated r e), λ a. w.good (named is_compared Kind.Annotation refl refl r a))) h) i
+      ++ annotations-renamed (type_part rs)
+      (every-front-as in_annotations
+      (λ r e w. (w.worded (annotated r e), λ a. w.good (named is_compared Kind.Annotation refl refl r a)))
+      h) i
       ++ condition-renamed (type_part rs) (every_rest in_type (every_rest in_annotations h)) i))
