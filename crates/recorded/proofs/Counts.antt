@@ -9,7 +9,7 @@ use lib.Seq.{drop-drop}
 use lib.Dec.{eqb}
 use Rattle.std.specs.List.{filter, range_with_len}
 use Rattle.rules.specs.Words.{only_if, select}
-use Rattle.rules.specs.Record.{is_of, kind_in, sub_in, record_bytes, pieces, records, decode}
+use Rattle.rules.specs.Record.{record_size, is_of, kind_in, sub_in, record_bytes, pieces, records, decode}
 use Rattle.recorded.specs.Replay.{records_of}
 
 -- one element more
@@ -34,12 +34,12 @@ module _ (kind sub : ℕ) (sheet : List ℕ) where
 
   counted_from :
       (n i : ℕ) →
-      length (filter test (range_with_len i n)) ≡ length (select (is_of kind sub) (map (decode []) (pieces n (drop (32 * i) sheet))))
+      length (filter test (range_with_len i n)) ≡ length (select (is_of kind sub) (map (decode []) (pieces n (drop (record_size * i) sheet))))
   unfolding select pieces decode
   counted_from zero i = refl
   counted_from (suc n) i =
-      let next : 32 * i + 32 ≡ 32 * (i + 1) = omega arith in
-      rw (drop-drop 32 (32 * i) sheet, next) (one (test i) _ _ _ (counted_from n (i + 1)))
+      let next : record_size * i + record_size ≡ record_size * (i + 1) = omega arith in
+      rw (drop-drop record_size (record_size * i) sheet, next) (one (test i) _ _ _ (counted_from n (i + 1)))
     where
       one :
           {A : Type 0} (b : Bool) (x : A) (is : List ℕ) (xs : List A) → length is ≡ length xs →
@@ -47,6 +47,6 @@ module _ (kind sub : ℕ) (sheet : List ℕ) where
       one true x is xs e = ap suc e
       one false x is xs e = e
 
-  pub counted : length (filter test (range_with_len 0 (length sheet / 32))) ≡ records_of kind sub sheet
+  pub counted : length (filter test (range_with_len 0 (length sheet / record_size))) ≡ records_of kind sub sheet
   unfolding records_of records
-  counted = counted_from (length sheet / 32) 0
+  counted = counted_from (length sheet / record_size) 0

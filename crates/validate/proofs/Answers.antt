@@ -8,13 +8,15 @@ use mathlib.Core.Option.{some, none}
 use lib.ListN.{length}
 use lib.Dec.{leb}
 use borrow.Author.Tests.{le-leb}
+use Rattle.rules.specs.declared.span.Span.{Span}
 use Rattle.rules.specs.declared.answer.Counts.{Counts}
 use Rattle.rules.specs.declared.answer.AnswerValues.{AnswerValues}
 use Rattle.std.specs.Prelude.{Result, Ok}
 use Rattle.rules.specs.declared.answer.Refused.{Refused}
 use Rattle.rules.specs.Words.{only_if}
 use Rattle.rules.specs.Record.{record_size}
-use Rattle.rules.specs.Refusals.{Fault, refusal}
+use Rattle.rules.specs.Refusals.{Fault, max_length, refusal}
+use Rattle.rules.specs.Rule.{Found}
 use Rattle.rules.specs.Bodies.{violations_of}
 use Rattle.rules.specs.Answer.{is_accepted, full_list, total_of, errors_of, answer, values_of}
 use Rattle.rules.specs.Buffer.{written, buffer_after}
@@ -42,12 +44,16 @@ module _ (sheet names old : List ℕ) where
   accepted : refusal sheet names ≡ none → is_accepted sheet names ≡ true
   accepted told = rw (told, is_accepted) refl
 
+  -- what the rules find by a table of names
+  abbrev found_by : List ℕ → List (Found Span)
+  found_by table = violations_of (context_by table sheet) (view_of sheet 0 (length sheet / record_size))
+
   -- the list
   listed :
       (table : List ℕ) (s : State) → refusal sheet names ≡ none →
       SameEnds (context_by (name_table sheet names) sheet) (context_by table sheet) →
       s
-      ≡ push_found (only_if (leb (length sheet) 32768) (violations_of (context_by table sheet) (view_of sheet 0 (length sheet / record_size))))
+      ≡ push_found (only_if (leb (length sheet) max_length) (found_by table))
       (old, record { total = 0; errors = 0 }) →
       s
       ≡ (written (full_list sheet names) old, record { total = total_of (full_list sheet names); errors = errors_of (full_list sheet names) })
@@ -55,8 +61,8 @@ module _ (sheet names old : List ℕ) where
   listed table s told ends hs =
       let good : is_accepted sheet names ≡ true = accepted told in
       hs
-      ∙ ap (λ b. push_found (only_if b (violations_of (context_by table sheet) (view_of sheet 0 (length sheet / record_size)))) (old, record { total = 0; errors = 0 }))
-      (le-leb (length sheet) 32768 (accepted-length sheet names good))
+      ∙ ap (λ b. push_found (only_if b (found_by table)) (old, record { total = 0; errors = 0 }))
+      (le-leb (length sheet) max_length (accepted-length sheet names good))
       ∙ ap (λ fs. push_found fs (old, record { total = 0; errors = 0 })) (table-list sheet names good table ends)
       ∙ push-written (full_list sheet names) old (omega (arith, list-fits sheet names good))
 
@@ -66,7 +72,7 @@ module _ (sheet names old : List ℕ) where
       (ends : SameEnds (context_by (name_table sheet names) sheet) (context_by table sheet))
       (hs :
       ◌≡◌ {A = List ℕ × Counts} (list, counts)
-      (push_found (only_if (leb (length sheet) 32768) (violations_of (context_by table sheet) (view_of sheet 0 (length sheet / record_size))))
+      (push_found (only_if (leb (length sheet) max_length) (found_by table))
       (old, record { total = 0; errors = 0 }))) where
     pub accepted_told : answer sheet names ≡ record { number = 0; index = 0; total = counts.total; errors = counts.errors }
     unfolding answer
