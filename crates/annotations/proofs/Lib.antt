@@ -1,8 +1,5 @@
-pub mod Asked
 pub mod Views
 pub mod WordCodes
-pub mod Slots
-pub mod Entered
 pub mod Repeats
 pub mod Single
 pub mod Reasons

@@ -7,7 +7,7 @@ use Rattle.rules.specs.Record.{Rec}
 use Rattle.rules.specs.Annotations.{has_reason}
 use Rattle.names.specs.View.{view_at, view_of, context_by, entry_of, code_part}
 use Rattle.annotations.specs.AnnotationAt.{annotation_at}
-use Rattle.annotations.proofs.Asked.{SomeFrom}
+use Rattle.lists.proofs.Asked.{SomeFrom}
 use Rattle.annotations.proofs.Views.{any_in}
 use Rattle.annotations.proofs.WordCodes.{word-is}
 

@@ -11,8 +11,8 @@ use Rattle.names.specs.View.{view_at, view_of, context_by, entry_of, id_part, co
 use Rattle.diagnostic.specs.declared.violations.Violations.{Violations}
 use Rattle.diagnostic.specs.Violations.{Adds}
 use Rattle.annotations.specs.AnnotationAt.{annotation_at}
-use Rattle.annotations.specs.Slots.{has_key}
-use Rattle.annotations.specs.Met.{Row, is_met}
+use Rattle.lists.specs.Slots.{has_key}
+use Rattle.lists.specs.Met.{Row, is_met}
 use Rattle.annotations.specs.Earlier.{is_annotation, earlier_of, earlier, is_compared_at, repeats_at, annotations_row}
 use Rattle.annotations.proofs.Views.{annotations-next, annotations-other, annotations-none}
 use Rattle.annotations.proofs.WordCodes.{word-is}

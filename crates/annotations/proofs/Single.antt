@@ -19,7 +19,7 @@ use Rattle.diagnostic.specs.declared.violations.Violations.{Violations}
 use Rattle.diagnostic.specs.Violations.{Adds}
 use Rattle.diagnostic.proofs.Added.{adds_none}
 use Rattle.annotations.specs.AnnotationAt.{annotation_at, NoneAfter}
-use Rattle.annotations.proofs.Asked.{SomeFrom}
+use Rattle.lists.proofs.Asked.{SomeFrom}
 use Rattle.annotations.proofs.Views.{annotations-next, annotations-other, annotations-none}
 
 -- no record after the first is an annotation

@@ -10,7 +10,7 @@ use Rattle.rules.specs.Record.{Rec, is}
 use Rattle.rules.specs.Annotations.{annotations_of}
 use Rattle.names.specs.View.{view_at, view_of}
 use Rattle.types.proofs.Views.{view-cons, view-none}
-use Rattle.annotations.proofs.Asked.{SomeFrom}
+use Rattle.lists.proofs.Asked.{SomeFrom}
 use Rattle.annotations.specs.AnnotationAt.{arguments_from, annotation_at}
 
 -- the records after the first: where no index is left, there are none

@@ -5,7 +5,7 @@ use Rattle.rules.specs.Kind
 use Rattle.rules.specs.Record.{is}
 use Rattle.rules.specs.Context.{doc}
 use Rattle.names.specs.View.{view_at, context_by}
-use Rattle.annotations.specs.Met.{Row}
+use Rattle.lists.specs.Met.{Row}
 
 -- record i is an annotation
 abbrev pub is_annotation : List ℕ → ℕ → Bool

@@ -1,7 +1,4 @@
 pub mod AnnotationAt
-pub mod Slots
-pub mod Met
-pub mod Named
 pub mod Target
 pub mod Each
 pub mod Earlier

@@ -3,14 +3,13 @@ ghost use Rattle.std.specs.Prelude.{◌≡◌, []};
 ghost use Rattle.rules.specs.Annotations.{annotations_of, duplicate_annotations};
 ghost use Rattle.names.specs.Known.{numbers_of, context_in, records_in};
 ghost use Rattle.diagnostic.specs.Violations.{Adds};
-ghost use Rattle.annotations.specs.Met.{Row, Tells};
+ghost use Rattle.lists.specs.Met.{Row, Tells};
 ghost use Rattle.annotations.specs.Earlier.{is_compared_at, annotations_row};
 
 use crate::arguments::is_annotation;
-use crate::met::MetNames;
-use crate::named::NamedRecords;
 use crate::word::is_word;
 use diagnostic::Violations;
+use lists::{MetNames, NamedRecords};
 use names::{ValidationContext, Word};
 use rules::{RecordRange, Rule};
 use sheet::kinds;

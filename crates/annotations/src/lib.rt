@@ -8,12 +8,9 @@ mod deprecated;
 mod duplicates;
 mod field;
 mod limit;
-mod met;
-mod named;
 mod word;
 
 pub use deprecated::check_deprecated_has_reason;
 pub use duplicates::check_duplicate_annotations;
 pub use field::check_field_annotations;
 pub use limit::check_limit_value;
-pub use met::MetNames;

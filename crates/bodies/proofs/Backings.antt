@@ -21,7 +21,7 @@ use Rattle.diagnostic.specs.declared.violations.Violations.{Violations}
 use Rattle.diagnostic.specs.Violations.{Adds}
 use Rattle.diagnostic.proofs.Added.{adds_none, adds_then}
 use Rattle.types.proofs.Views.{view-cons, view-none}
-use Rattle.annotations.proofs.Asked.{SomeFrom}
+use Rattle.lists.proofs.Asked.{SomeFrom}
 use Rattle.bodies.specs.Backing.{narrow_found, backings_from}
 use Rattle.bodies.specs.VariantParts.{at_variant}
 use Rattle.bodies.proofs.BodyItems.{item-member, no_item}

@@ -121,10 +121,6 @@ module _ (sheet : List ℕ) (a e k : ℕ) (h : a < e) (read : k ≡ kind_in (rec
 
 -- such a field starts and ends where all fields do
 module _ (sheet : List ℕ) (a e : ℕ) (bare : Bare sheet a e) where
-  pub bare-fits : a < e
-  unfolding Bare
-  bare-fits = bare.0
-
   pub bare_end : RunTo in_field sheet a e (a + 1) × PartsAt sheet (bare_parts a)
   unfolding Bare
   bare_end =

@@ -13,23 +13,20 @@ use Rattle.names.specs.Known.{numbers_of, context_in}
 use Rattle.names.specs.View.{view_at, view_of, entry_of, id_part, context_by}
 use Rattle.diagnostic.specs.declared.violations.Violations.{Violations}
 use Rattle.diagnostic.specs.Violations.{Adds}
-use Rattle.annotations.specs.Slots.{has_key}
-use Rattle.annotations.specs.Met.{Row, of_kind, is_met}
+use Rattle.lists.specs.Slots.{has_key}
+use Rattle.lists.specs.Met.{Row, of_kind, is_met}
 use Rattle.types.proofs.Left.{Leaves, leaves_all, leaves_rest, leaves_none}
-use Rattle.bodies.specs.declared.whole.WholeRecords.{WholeRecords}
-use Rattle.bodies.specs.declared.seen.Seen.{Seen}
-use Rattle.bodies.specs.declared.seen.ItemList.{ItemList}
-use Rattle.bodies.specs.declared.seen.MetItem.{MetItem}
-use Rattle.bodies.specs.Seen.{Known}
-use Rattle.bodies.specs.Met.{sheet_of, IsItem, tombstoned_in, met_before, KnownBefore}
-use Rattle.bodies.specs.Earlier.{earlier, values_before}
+use Rattle.lists.specs.declared.whole.WholeRecords.{WholeRecords}
+use Rattle.lists.specs.declared.items.MetItem.{MetItem}
+use Rattle.lists.specs.Items.{Items, listed, IsItem, IsOther}
+use Rattle.lists.specs.MetAt.{MetAt}
+use Rattle.lists.specs.Earlier.{earlier, values_before}
 use Rattle.bodies.specs.Runs.{in_field, AllIn, RunTo}
-use Rattle.bodies.specs.Ordinal.{member_found}
+use Rattle.lists.specs.Ordinal.{member_found}
 use Rattle.bodies.specs.Items.{field_found}
-use Rattle.bodies.proofs.Passing.{gone, known-other}
-use Rattle.bodies.proofs.Turns.{names_of, kind-is, kind-not, turn-none}
+use Rattle.lists.proofs.Passing.{gone}
+use Rattle.bodies.proofs.Turns.{names_of, turn-none}
 use Rattle.bodies.proofs.Retired.{retired-fields}
-use Rattle.bodies.proofs.WholeRecords.{has-ordinal, field-has}
 use Rattle.bodies.proofs.FieldTurns.{fields_left, field-not, field-inner, field-other, field-turn, item-found}
 
 module _ (table sheet : List ℕ) (a : ℕ) where
@@ -78,45 +75,44 @@ module _ (fields : WholeRecords) where
   still i = fields_left table sheet a e tombs i
 
   -- the list of the fields, and their names
-  abbrev pub fields_of : ItemList
-  fields_of = record { records = fields; item = Kind.Field; tombstone = Kind.FieldTombstone }
+  abbrev pub fields_of : Items
+  fields_of = listed sheet fields.range Kind.Field Kind.FieldTombstone
 
   abbrev pub names_in : Row
   names_in = record { sheet = sheet; table = table; kind = Kind.Field; start = a }
 
   -- before record i of the list
-  pub record FieldsKnown (seen : Seen) (names : Row) (old now : Violations) (i : ℕ) : Type 0 where
-    pub list : seen.list ≡ fields_of
+  pub record FieldsKnown (seen : Items) (names : Row) (old now : Violations) (i : ℕ) : Type 0 where
+    pub list : seen ≡ fields_of
     pub named : names ≡ names_in
+    pub least : a ≤ i
     pub most : i ≤ e
-    pub known : Known 11 12 sheet a e seen.tombstones seen.ordinals seen.marks seen.len i
     pub found : Leaves old now (field_list_violations (context_in fields.context) (view_of sheet a e)) (still i)
 
   -- the start of the list
   pub fields_none :
-      (seen : Seen) (names : Row) (vs : Violations) → names ≡ names_in → seen.list ≡ fields_of →
-      KnownBefore seen a → FieldsKnown seen names vs vs a
-  fields_none seen names vs named list known = record {
+      (seen : Items) (names : Row) (vs : Violations) → names ≡ names_in → seen ≡ fields_of → FieldsKnown seen names vs vs a
+  fields_none seen names vs named list = record {
     list = list;
     named = named;
+    least = omega arith;
     most = fields.ordered;
-    known = rw list at known;
     found = rw (← (fields-start table sheet a e)) (leaves_all vs (still a));
   }
 
-  module _ (seen : Seen) (names : Row) (old now : Violations) where
+  module _ (seen : Items) (names : Row) (old now : Violations) where
     -- a record that is no field
     pub fields_other :
-        (now' : Violations) (i kind : ℕ) → FieldsKnown seen names old now i → i < e → kind ≡ kind_in (record_bytes sheet i) → (kind ≡ 11 → ⊥) →
+        (now' : Violations) (i : ℕ) → FieldsKnown seen names old now i → i < e → IsOther seen i →
         Adds now now' (found_if 1 (is Kind.Invariant (view_at sheet i)) (view_at sheet i).place) → FieldsKnown seen names old now' (i + 1)
-    fields_other now' i kind k h hk ne adds =
-        let test : is Kind.Field (view_at sheet i) ≡ false = kind-not sheet i kind 11 hk ne in
+    fields_other now' i k h other adds =
+        let test : is Kind.Field (view_at sheet i) ≡ false = (rw k.list at other) h in
         record {
           list = k.list;
           named = k.named;
+          least = omega (arith, k.least);
           most = omega arith;
-          known = known-other 11 12 sheet a e seen.tombstones seen.ordinals seen.marks seen.len i k.known h test;
-          found = leaves_rest old now now' _ _ _ _ k.found (field-other table sheet a e tombs i k.known.2 h test) adds;
+          found = leaves_rest old now now' _ _ _ _ k.found (field-other table sheet a e tombs i k.least h test) adds;
         }
 
     -- a record of a field's parts
@@ -124,9 +120,9 @@ module _ (fields : WholeRecords) where
     fields-inner i k h st = record {
       list = k.list;
       named = k.named;
+      least = omega (arith, k.least);
       most = omega arith;
-      known = known-other 11 12 sheet a e seen.tombstones seen.ordinals seen.marks seen.len i k.known h (field-not (view_at sheet i) st);
-      found = rw (field-inner table sheet a e tombs i k.known.2 h st) at k.found;
+      found = rw (field-inner table sheet a e tombs i k.least h st) at k.found;
     }
 
     -- all of a field's parts
@@ -152,39 +148,35 @@ module _ (fields : WholeRecords) where
         (turn-none (context_in fields.context) field_scheme (field_item_violations (context_in fields.context)) starts_field_item 11 sheet a e tombs i h)
 
   -- a field
-  module _ (seen : Seen) (names : Row) (old now : Violations) (i kind : ℕ) (k : FieldsKnown seen names old now i) (h : i < e) (hk : kind ≡ kind_in (record_bytes sheet i)) (eq : kind ≡ 11) where
-    test : is Kind.Field (view_at sheet i) ≡ true
-    test = kind-is sheet i kind 11 hk eq
+  module _ (seen : Items) (names : Row) (old now : Violations) (i : ℕ) (k : FieldsKnown seen names old now i) (field : IsItem seen i) where
+    h : i < e
+    h = (rw k.list at field).0
 
-    -- `meets_variant` says so of variants; one law for both would take these five facts, and be as long at each call
-    pub meets_field : IsItem seen.list i
-    meets_field = rw k.list (h, test, has-ordinal kind 11 (kind_in (record_bytes sheet i)) hk eq field-has)
+    test : is Kind.Field (view_at sheet i) ≡ true
+    test = (rw k.list at field).1
 
     pub fields_field :
-        (seen' : Seen) (names' : Row) (mid now' : Violations) (item : MetItem) (renamed : Bool) (end : ℕ) → seen'.list ≡ seen.list →
-        item.sheet ≡ seen.list.records.context.sheet → item.index ≡ i →
-        item.meeting.tombstoned ≡ tombstoned_in seen.list (value_in (record_bytes (sheet_of seen.list) i)) →
-        item.meeting.met ≡ met_before seen.list i (value_in (record_bytes (sheet_of seen.list) i)) → KnownBefore seen' (i + 1) →
+        (seen' : Items) (names' : Row) (mid now' : Violations) (item : MetItem) (renamed : Bool) (end : ℕ) → seen' ≡ seen → MetAt seen i item →
         (names' ≡ names) × (renamed ≡ is_met names i) → RunTo in_field sheet (i + 1) e end →
         Adds now mid (member_found field_scheme item.meeting.tombstoned item.meeting.met renamed (view_at item.sheet.now item.index)) →
         Adds mid now' (field_violations (context_in fields.context) (view_of sheet (i + 1) end)) → FieldsKnown seen' names' old now' end
     unfolding view_at
-    fields_field seen' names' mid now' item renamed end same hs hi ht hm known' again ends ordinal parts =
+    fields_field seen' names' mid now' item renamed end same told again ends ordinal parts =
+        let inside : i < e = h in
         let m = item.meeting in
         let adds : Adds now now' (field_found table sheet i end m.tombstoned m.met renamed) =
-        item-found table sheet i end m.tombstoned m.met renamed now mid now' (rw (hs, k.list, hi) at ordinal) parts in
-        let whole : seen'.list ≡ fields_of = same ∙ k.list in
-        let dead : m.tombstoned ≡ member (value_in (record_bytes sheet i)) tombs = rw k.list at ht in
-        let met : m.met ≡ member (value_in (record_bytes sheet i)) (values_before 11 sheet a i) = rw k.list at hm in
+        item-found table sheet i end m.tombstoned m.met renamed now mid now' (rw (told.sheet, k.list, told.index) at ordinal) parts in
+        let dead : m.tombstoned ≡ member (value_in (record_bytes sheet i)) tombs = rw k.list at told.tombstoned in
+        let met : m.met ≡ member (value_in (record_bytes sheet i)) (values_before 11 sheet a i) = rw k.list at told.met in
         let named : renamed ≡ is_met names_in i = rw k.named at again.1 in
         let next : FieldsKnown seen' names' old now' (i + 1) = record {
-          list = whole;
+          list = same ∙ k.list;
           named = again.0 ∙ k.named;
+          least = omega (arith, k.least);
           most = omega arith;
-          known = rw whole at known';
           found =
               leaves_rest old now now' _ _ _ _ k.found
-              (field-turn table sheet a e tombs i end m.tombstoned m.met renamed k.known.2 h test ends.0 dead (ap₂ (λ g m. not g && m) dead met) (named ∙ has-names table sheet a i (i - a)))
+              (field-turn table sheet a e tombs i end m.tombstoned m.met renamed k.least h test ends.0 dead (ap₂ (λ g m. not g && m) dead met) (named ∙ has-names table sheet a i (i - a)))
               adds;
         } in
         fields_to seen' names' old now' (i + 1) end next (ends.2 (omega arith)) ends.1 ends.3

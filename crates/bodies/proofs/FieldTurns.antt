@@ -20,9 +20,9 @@ use Rattle.diagnostic.specs.declared.violations.Violations.{Violations}
 use Rattle.diagnostic.specs.Violations.{Adds}
 use Rattle.diagnostic.proofs.Added.{adds_then}
 use Rattle.bodies.specs.Runs.{in_field, EndsAt}
-use Rattle.bodies.specs.Ordinal.{member_found}
+use Rattle.lists.specs.Ordinal.{member_found}
 use Rattle.bodies.specs.Items.{field_found}
-use Rattle.bodies.proofs.Passing.{values, before}
+use Rattle.lists.proofs.Passing.{values, before}
 use Rattle.bodies.proofs.Turns.{names_of, left, turn-member, turn-other, turn-inner}
 
 -- what the tests say is what the rules of a scheme ask

@@ -13,7 +13,7 @@ use Rattle.rules.specs.Grammar.{starts_field_item, starts_item}
 use Rattle.rules.specs.Bodies.{used, retired, retired_ordinal, retired_ordinals, is_member, is_tombstone, slots}
 use Rattle.rules.proofs.Joined.{flat_map-append}
 use Rattle.rules.proofs.Taken.{within-true, outside-is}
-use Rattle.bodies.specs.Earlier.{values_of}
+use Rattle.lists.specs.Earlier.{values_of}
 
 -- an item's own
 slot-retired : (m t : Bool) (v : ℕ) → flat_map retired_ordinal (only_if m (used v ∷ []) ++ only_if t (retired v ∷ [])) ≡ only_if t (v ∷ [])

@@ -3,27 +3,16 @@ use Prim.Native.Nat.{ℕ, ◌+◌, ◌-◌, ◌≤◌, ◌<◌}
 use mathlib.Core.Path.{◌≡◌, sym, ap, ◌∙◌}
 use mathlib.Core.Bool.{Bool, true, false, not}
 use mathlib.Core.List.{List, [], ◌∷◌, ◌++◌, map}
-use lib.Dec.{eqb}
-use borrow.Author.Tests.{eq-eqb, ne_eqb}
 use Rattle.rules.specs.declared.span.Span.{Span}
 use Rattle.rules.specs.Words.{only_if, front, Item, items}
-use Rattle.rules.specs.Record.{Rec, is, kind_in, record_bytes}
+use Rattle.rules.specs.Record.{Rec, is}
 use Rattle.rules.specs.Context.{ValidationContext}
 use Rattle.rules.specs.Rule.{Found}
 use Rattle.rules.specs.Bodies.{Scheme, is_member, member_violations, items_violations}
 use Rattle.names.specs.View.{view_at, view_of}
 use Rattle.types.proofs.Views.{view-cons, view-none}
-use Rattle.bodies.specs.Earlier.{earlier}
-use Rattle.bodies.proofs.Passing.{earlier-next, values}
-
--- a record's kind, as it was read
-pub kind-is : (sheet : List ℕ) (i k kind : ℕ) → k ≡ kind_in (record_bytes sheet i) → k ≡ kind → is kind (view_at sheet i) ≡ true
-unfolding view_at
-kind-is sheet i k kind hk h = ap (λ n. eqb n kind) (sym hk) ∙ eq-eqb k kind h
-
-pub kind-not : (sheet : List ℕ) (i k kind : ℕ) → k ≡ kind_in (record_bytes sheet i) → (k ≡ kind → ⊥) → is kind (view_at sheet i) ≡ false
-unfolding view_at
-kind-not sheet i k kind hk h = ap (λ n. eqb n kind) (sym hk) ∙ ne_eqb k kind h
+use Rattle.lists.specs.Earlier.{earlier}
+use Rattle.lists.proofs.Passing.{earlier-next, values}
 
 -- the names of records
 abbrev pub names_of : List (Rec ℕ Span) → List ℕ

@@ -19,22 +19,19 @@ use Rattle.diagnostic.specs.declared.violations.Violations.{Violations}
 use Rattle.diagnostic.specs.Violations.{Adds}
 use Rattle.diagnostic.proofs.Added.{adds_then}
 use Rattle.types.proofs.Left.{Leaves, leaves_all, leaves_rest, leaves_none}
-use Rattle.bodies.specs.declared.ordinal.OrdinalRules.{OrdinalRules}
-use Rattle.bodies.specs.declared.whole.WholeRecords.{WholeRecords}
-use Rattle.bodies.specs.declared.seen.Seen.{Seen}
-use Rattle.bodies.specs.declared.seen.ItemList.{ItemList}
-use Rattle.bodies.specs.declared.seen.MetItem.{MetItem}
-use Rattle.bodies.specs.Seen.{Known}
-use Rattle.bodies.specs.Met.{sheet_of, IsItem, tombstoned_in, met_before, KnownBefore}
-use Rattle.bodies.specs.Earlier.{earlier}
+use Rattle.lists.specs.declared.ordinal.OrdinalRules.{OrdinalRules}
+use Rattle.lists.specs.declared.whole.WholeRecords.{WholeRecords}
+use Rattle.lists.specs.declared.items.MetItem.{MetItem}
+use Rattle.lists.specs.Items.{Items, listed, IsItem, IsOther}
+use Rattle.lists.specs.MetAt.{MetAt}
+use Rattle.lists.specs.Earlier.{earlier}
 use Rattle.bodies.specs.Runs.{in_item}
-use Rattle.bodies.specs.Ordinal.{scheme_of, member_found}
+use Rattle.lists.specs.Ordinal.{scheme_of, member_found}
 use Rattle.bodies.specs.VariantParts.{at_variant}
 use Rattle.bodies.proofs.BodyItems.{item-member}
-use Rattle.bodies.proofs.Passing.{values, gone, before, known-other}
-use Rattle.bodies.proofs.Turns.{names_of, kind-is, kind-not, left, turn-member, turn-other, turn-inner, turn-none}
+use Rattle.lists.proofs.Passing.{values, gone, before}
+use Rattle.bodies.proofs.Turns.{names_of, left, turn-member, turn-other, turn-inner, turn-none}
 use Rattle.bodies.proofs.Retired.{retired-items}
-use Rattle.bodies.proofs.WholeRecords.{has-ordinal, variant-has}
 use Rattle.bodies.proofs.FieldTurns.{member-tests}
 
 -- the kinds of a body
@@ -58,36 +55,14 @@ module _ (body : WholeRecords) where
   at i = view_at sheet i
 
   -- the list of the body's variants
-  abbrev pub variants_of : ItemList
-  variants_of = record { records = body; item = Kind.Variant; tombstone = Kind.Tombstone }
+  abbrev pub variants_of : Items
+  variants_of = listed sheet body.range Kind.Variant Kind.Tombstone
 
   -- before record i of the body
-  pub record VariantsKnown (seen : Seen) (i : ℕ) : Type 0 where
-    pub list : seen.list ≡ variants_of
+  pub record VariantsKnown (seen : Items) (i : ℕ) : Type 0 where
+    pub list : seen ≡ variants_of
+    pub least : a ≤ i
     pub most : i ≤ e
-    pub known : Known Kind.Variant Kind.Tombstone sheet a e seen.tombstones seen.ordinals seen.marks seen.len i
-
-  pub variants_none : (seen : Seen) → seen.list ≡ variants_of → KnownBefore seen a → VariantsKnown seen a
-  variants_none seen list known = record { list = list; most = body.ordered; known = rw list at known }
-
-  -- at a record
-  module _ (seen : Seen) (i kind : ℕ) (k : VariantsKnown seen i) (h : i < e) (hk : kind ≡ kind_in (record_bytes sheet i)) where
-    -- that is no variant
-    pub variants_other : (kind ≡ Kind.Variant → ⊥) → VariantsKnown seen (i + 1)
-    variants_other ne = record {
-      list = k.list;
-      most = omega arith;
-      known = known-other Kind.Variant Kind.Tombstone sheet a e seen.tombstones seen.ordinals seen.marks seen.len i k.known h (kind-not sheet i kind Kind.Variant hk ne);
-    }
-
-    -- that is one
-    pub meets_variant : kind ≡ Kind.Variant → IsItem seen.list i
-    meets_variant eq = rw k.list (h, kind-is sheet i kind Kind.Variant hk eq, has-ordinal kind Kind.Variant (kind_in (record_bytes sheet i)) hk eq variant-has)
-
-    pub variants_met : (seen' : Seen) → seen'.list ≡ seen.list → KnownBefore seen' (i + 1) → VariantsKnown seen' (i + 1)
-    variants_met seen' same known' =
-        let whole : seen'.list ≡ variants_of = same ∙ k.list in
-        record { list = whole; most = omega arith; known = rw whole at known' }
 
   module _ (rules : OrdinalRules) (parts : List (Rec ℕ Span) → List (Found Span)) where
     abbrev ctx : ValidationContext ℕ Span
@@ -126,19 +101,19 @@ module _ (body : WholeRecords) where
       pub left_none : e ≤ i → Adds old now variants_found
       left_none h = leaves_none old now _ _ leaves (turn-none ctx (scheme_of rules) own starts_item Kind.Variant sheet a e tombs i h)
 
-      module _ (seen : Seen) (kind : ℕ) (k : VariantsKnown seen i) (h : i < e) (hk : kind ≡ kind_in (record_bytes sheet i)) where
+      module _ (seen : Items) (k : VariantsKnown seen i) (h : i < e) where
         -- a record that is no variant
-        pub left_other : (kind ≡ Kind.Variant → ⊥) → Leaves old now variants_found (variants_left (i + 1))
-        left_other ne = rw (go (starts_item (at i)) refl) at leaves
+        pub left_other : IsOther seen i → Leaves old now variants_found (variants_left (i + 1))
+        left_other other = rw (go (starts_item (at i)) refl) at leaves
           where
             t : is Kind.Variant (at i) ≡ false
-            t = kind-not sheet i kind Kind.Variant hk ne
+            t = (rw k.list at other) h
 
             go : (b : Bool) → starts_item (at i) ≡ b → variants_left i ≡ variants_left (i + 1)
             go true st =
-                turn-other ctx (scheme_of rules) own starts_item Kind.Variant sheet a e tombs i k.known.2 h st (item-member (at i) st ∙ t) t
+                turn-other ctx (scheme_of rules) own starts_item Kind.Variant sheet a e tombs i k.least h st (item-member (at i) st ∙ t) t
                 ∙ ap (λ b. only_if b (parts (behind i)) ++ variants_left (i + 1)) t
-            go false st = turn-inner ctx (scheme_of rules) own starts_item Kind.Variant sheet a e tombs i k.known.2 h st t
+            go false st = turn-inner ctx (scheme_of rules) own starts_item Kind.Variant sheet a e tombs i k.least h st t
 
         -- no name is asked for
         names-free : (tombstoned met b c : Bool) (r : Rec ℕ Span) → member_found (scheme_of rules) tombstoned met b r ≡ member_found (scheme_of rules) tombstoned met c r
@@ -147,26 +122,24 @@ module _ (body : WholeRecords) where
 
         -- a variant
         pub left_variant :
-            (m : MetItem) (rest : WholeRecords) (mid new : Violations) → kind ≡ Kind.Variant → m.sheet ≡ seen.list.records.context.sheet → m.index ≡ i →
-            m.meeting.tombstoned ≡ tombstoned_in seen.list (value_in (record_bytes (sheet_of seen.list) i)) →
-            m.meeting.met ≡ met_before seen.list i (value_in (record_bytes (sheet_of seen.list) i)) →
+            (m : MetItem) (rest : WholeRecords) (mid new : Violations) → IsItem seen i → MetAt seen i m →
             rest.range ≡ record { start = i + 1; end = e } → rest.context ≡ body.context →
             Adds now mid (member_found (scheme_of rules) m.meeting.tombstoned m.meeting.met false (view_at m.sheet.now m.index)) →
             Adds mid new (parts (front in_item (records_in rest.context rest.range))) → Leaves old new variants_found (variants_left (i + 1))
         unfolding view_at
-        left_variant m rest mid new eq hs hi ht hm hr hc ordinal found =
-            let test : is Kind.Variant (at i) ≡ true = kind-is sheet i kind Kind.Variant hk eq in
+        left_variant m rest mid new variant told hr hc ordinal found =
+            let test : is Kind.Variant (at i) ≡ true = (rw k.list at variant).1 in
             let gone : Bool = m.meeting.tombstoned in
             let again : Bool = any_of (ctx.same (at i).name) (names_of (variants i)) in
-            let dead : gone ≡ member (value_in (record_bytes sheet i)) tombs = rw k.list at ht in
-            let met : m.meeting.met ≡ member (value_in (record_bytes sheet i)) (values (variants i)) = rw k.list at hm in
+            let dead : gone ≡ member (value_in (record_bytes sheet i)) tombs = rw k.list at told.tombstoned in
+            let met : m.meeting.met ≡ member (value_in (record_bytes sheet i)) (values (variants i)) = rw k.list at told.met in
             let here : List (Found Span) = member_found (scheme_of rules) gone m.meeting.met false (at i) in
             leaves_rest old now new _ _ (here ++ parts (behind i)) _ leaves
-            (turn-member ctx (scheme_of rules) own starts_item Kind.Variant sheet a e tombs i k.known.2 h (variant-starts (at i) test) (variant-member (at i) test) test
+            (turn-member ctx (scheme_of rules) own starts_item Kind.Variant sheet a e tombs i k.least h (variant-starts (at i) test) (variant-member (at i) test) test
             ∙ ap₂ (λ xs b. xs ++ only_if b (parts (behind i)) ++ variants_left (i + 1))
             (sym (names-free gone m.meeting.met false again (at i)
             ∙ member-tests ctx (scheme_of rules) tombs (values (variants i)) (names_of (variants i)) (at i) gone m.meeting.met again dead
             (ap₂ (λ g m. not g && m) dead met)
             refl))
             test)
-            (adds_then now mid new here (parts (behind i)) (rw (hs, k.list, hi) at ordinal) (rw (hc, hr) at found))
+            (adds_then now mid new here (parts (behind i)) (rw (told.sheet, k.list, told.index) at ordinal) (rw (hc, hr) at found))

@@ -4,7 +4,7 @@ use Rattle.rules.specs.declared.span.Span.{Span}
 use Rattle.rules.specs.Rule.{Found}
 use Rattle.rules.specs.Bodies.{field_scheme, field_violations}
 use Rattle.names.specs.View.{view_at, view_of, context_by}
-use Rattle.bodies.specs.Ordinal.{member_found}
+use Rattle.lists.specs.Ordinal.{member_found}
 
 -- the field at record i, whose parts end at record end
 unfoldable pub field_found : List ℕ → List ℕ → ℕ → ℕ → Bool → Bool → Bool → List (Found Span)

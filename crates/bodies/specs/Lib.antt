@@ -1,10 +1,6 @@
 pub mod Backing
 pub mod Bit
-pub mod Earlier
 pub mod Items
-pub mod Met
-pub mod Ordinal
 pub mod Parts
 pub mod Runs
-pub mod Seen
 pub mod VariantParts

@@ -10,7 +10,7 @@ use Rattle.rules.specs.Rule.{Found}
 use Rattle.names.specs.Known.{context_in, records_in}
 use Rattle.diagnostic.specs.declared.violations.Violations.{Violations}
 use Rattle.diagnostic.specs.Violations.{Adds}
-use Rattle.bodies.specs.declared.whole.WholeRecords.{WholeRecords}
+use Rattle.lists.specs.declared.whole.WholeRecords.{WholeRecords}
 use Rattle.bodies.specs.Runs.{in_item}
 
 -- what is found by its parts at an item, if that is a variant

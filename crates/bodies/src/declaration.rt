@@ -15,8 +15,8 @@ use crate::message::check_message;
 use crate::newtype::check_newtype;
 use crate::runs::{is_before_head, run_end};
 use crate::unions::check_union;
-use crate::whole::WholeRecords;
 use diagnostic::Violations;
+use lists::WholeRecords;
 use names::ValidationContext;
 use rules::{RecordRange, Sheet};
 use sheet::subs;
@@ -54,5 +54,5 @@ pub fn check_declaration(context: ValidationContext, violations: &mut Violations
         return;
     }
     let sub = sheet::sub(context.sheet, head);
-    check_body(records.from(head + 1), violations, sub);
+    check_body(records.behind(head), violations, sub);
 }

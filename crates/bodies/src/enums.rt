@@ -7,10 +7,9 @@ ghost use Rattle.names.specs.Known.{context_in, records_in};
 ghost use Rattle.diagnostic.specs.Violations.{Adds};
 ghost use Rattle.bodies.specs.Backing.{narrow_found, backings_from};
 
-use crate::ordinal::OrdinalRules;
 use crate::variants::check_variants;
-use crate::whole::WholeRecords;
 use diagnostic::Violations;
+use lists::{OrdinalRules, WholeRecords};
 use rules::{RecordRange, Rule, Sheet};
 use sheet::{kinds, subs};
 

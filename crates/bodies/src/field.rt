@@ -10,8 +10,8 @@ ghost use Rattle.bodies.specs.Runs.{in_field, RunTo};
 ghost use Rattle.bodies.specs.Parts.{OptionalsTo, PartsAt, Bare};
 
 use crate::runs::{is_annotation, is_field_part, optionals_end, run_end, type_end};
-use crate::whole::WholeRecords;
 use diagnostic::Violations;
+use lists::WholeRecords;
 use names::ValidationContext;
 use rules::RecordRange;
 use sheet::kinds;

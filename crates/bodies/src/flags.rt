@@ -5,8 +5,8 @@ ghost use Rattle.names.specs.View.{view_at};
 ghost use Rattle.diagnostic.specs.Violations.{Adds};
 ghost use Rattle.bodies.specs.Bit.{bit_found};
 
-use crate::whole::WholeRecords;
 use diagnostic::Violations;
+use lists::WholeRecords;
 use rules::{Rule, Sheet};
 use sheet::kinds;
 

@@ -7,11 +7,8 @@ mod field;
 mod flags;
 mod message;
 mod newtype;
-mod ordinal;
 mod runs;
-mod seen;
 mod unions;
 mod variants;
-mod whole;
 
 pub use declaration::check_declaration;

@@ -7,15 +7,12 @@ ghost use Rattle.rules.specs.Bodies.{field_scheme, field_violations, field_list_
 ghost use Rattle.names.specs.Known.{context_in, records_in};
 ghost use Rattle.names.specs.View.{view_at, view_of};
 ghost use Rattle.diagnostic.specs.Violations.{Adds};
-ghost use Rattle.bodies.specs.Ordinal.{member_found};
+ghost use Rattle.lists.specs.Ordinal.{member_found};
 ghost use Rattle.bodies.specs.Runs.{in_field, RunTo};
 
 use crate::field::{check_bare, check_field, field_parts, is_bare};
-use crate::ordinal::OrdinalRules;
-use crate::seen::{ItemList, MetItem, Seen};
-use crate::whole::WholeRecords;
-use annotations::MetNames;
 use diagnostic::Violations;
+use lists::{MetItem, MetNames, OrdinalRules, Seen, WholeRecords};
 use rules::Rule;
 use sheet::kinds;
 
@@ -70,20 +67,19 @@ pub fn check_message_body<'a>(
     ensures { Adds violations.old violations.new (field_list_violations (context_in fields.entry.context) (records_in fields.entry.context fields.entry.range)) }
 {
     names.restart(fields.context, kinds::FIELD, fields.range.start);
-    let mut seen = Seen::new(ItemList::fields(fields));
+    let mut seen = Seen::fields(fields);
     seen.collect();
     let mut i = fields.range.start;
     // what is checked of a field says where to go on, which no `for` does
     while i < fields.range.end {
-        if fields.kind(i) != kinds::FIELD {
+        let Some(field) = seen.meet(i) else {
             check_invariant(fields.context.sheet, violations, i);
             i += 1;
             continue;
-        }
-        let field = seen.meet(i);
+        };
         let renamed = names.is_met(i);
         check_ordinal_and_name(violations, field, renamed);
-        i = check_parts(fields.from(i + 1), violations);
+        i = check_parts(fields.behind(i), violations);
     }
 }
 

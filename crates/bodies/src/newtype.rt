@@ -3,8 +3,8 @@ ghost use Rattle.rules.specs.Bodies.{newtype_violations};
 ghost use Rattle.names.specs.Known.{context_in, records_in};
 ghost use Rattle.diagnostic.specs.Violations.{Adds};
 
-use crate::whole::WholeRecords;
 use diagnostic::Violations;
+use lists::WholeRecords;
 use rules::Rule;
 use sheet::{kinds, subs};
 

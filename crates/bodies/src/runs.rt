@@ -2,11 +2,12 @@
 ghost use Rattle.std.specs.Prelude.{◌≡◌, ℕ, Bool, true, not, nat_eq, ◌||◌, ◌+◌, ◌*◌, ◌<◌, ◌≤◌, length};
 ghost use Rattle.rules.specs.Words.{within};
 ghost use Rattle.rules.specs.Kind;
-ghost use Rattle.rules.specs.Record.{is};
+ghost use Rattle.rules.specs.Record.{is, record_bytes, kind_in};
 ghost use Rattle.rules.specs.Bodies.{in_type};
 ghost use Rattle.bodies.specs.Runs.{RunTo, AllIn};
 
-use crate::whole::WholeRecords;
+use lists::WholeRecords;
+use rules::Sheet;
 use sheet::kinds;
 
 // Whether the kind is one of a record before the head.
@@ -60,12 +61,20 @@ pub fn run_end<F: Fn(u8) -> bool>(records: WholeRecords, is_in: F) -> usize
     records.range.end
 }
 
+// The kind of record `i`, which is one before their end: no test is left where several are read at once.
+fn kind_within(records: WholeRecords, i: usize) -> u8
+    requires { i < records.range.end }
+    ensures { result ≡ kind_in (record_bytes records.entry.context.sheet.now i) }
+{
+    records.context.sheet[i * Sheet::RECORD]
+}
+
 // Whether the four records from `i` on are optionals.
 fn are_optionals(records: WholeRecords, i: usize) -> bool
     requires { i + 4 ≤ records.range.end }
     ensures { result ≡ true → AllIn (is Kind.Optional) records.entry.context.sheet.now i (i + 4) }
 {
-    (0..4).all(|j| records.kind(i + j) == kinds::OPTIONAL)
+    (0..4).all(|j| kind_within(records, i + j) == kinds::OPTIONAL)
 }
 
 // How many fours of the records, from the first on, are optionals.

@@ -6,12 +6,10 @@ ghost use Rattle.diagnostic.specs.Violations.{Adds};
 ghost use Rattle.bodies.specs.Runs.{in_item};
 
 use crate::message::check_message_body;
-use crate::ordinal::OrdinalRules;
 use crate::runs::{is_variant_part, run_end};
 use crate::variants::check_variants;
-use crate::whole::WholeRecords;
-use annotations::MetNames;
 use diagnostic::Violations;
+use lists::{MetNames, OrdinalRules, WholeRecords};
 use sheet::kinds;
 
 // Adds what is wrong with the fields of the variant whose parts the records start with, by the names lent for them.

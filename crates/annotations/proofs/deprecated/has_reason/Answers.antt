@@ -1,6 +1,6 @@
 -- Each argument was asked for the code.
 use Rattle.std.proofs.Common.{rules}
-use Rattle.annotations.proofs.Asked.{any_from_range}
+use Rattle.lists.proofs.Asked.{any_from_range}
 use Rattle.annotations.proofs.Reasons.{reason-asked, code-is}
 use Rattle.annotations.proofs.deprecated.has_reason.Goals as goal
 

@@ -1,6 +1,6 @@
 -- Either test tells of each annotation whether its name is met.
 use Rattle.std.proofs.Common.{rules, of_calls}
-use Rattle.annotations.specs.Named.{row_of}
+use Rattle.lists.specs.Named.{row_of}
 use Rattle.annotations.proofs.duplicates.check_duplicate_annotations.Goals as goal
 
 pub returns-then-saturating_sub-le-FEW : goal.returns-then-saturating_sub-le-FEW

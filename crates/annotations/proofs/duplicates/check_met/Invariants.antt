@@ -1,7 +1,7 @@
 use Rattle.std.proofs.Common.{◌≡◌, []}
 use Rattle.rules.specs.Annotations.{annotations_of, duplicate_annotations}
 use Rattle.names.specs.Known.{numbers_of, context_in, records_in}
-use Rattle.annotations.specs.Met.{Row, Tells}
+use Rattle.lists.specs.Met.{Row, Tells}
 use Rattle.annotations.specs.Earlier.{annotations_row}
 use Rattle.types.proofs.Left.{Leaves}
 use Rattle.annotations.proofs.Repeats.{duplicates_from}

@@ -1,6 +1,6 @@
 -- Each record after the first was asked.
 use Rattle.std.proofs.Common.{rules}
-use Rattle.annotations.proofs.Asked.{any_from_range}
+use Rattle.lists.proofs.Asked.{any_from_range}
 use Rattle.annotations.proofs.Single.{none-after}
 use Rattle.annotations.proofs.field.has_second.Goals as goal
 

@@ -1,6 +1,6 @@
 -- Each record of the body was asked.
 use Rattle.std.proofs.Common.{rules}
-use Rattle.annotations.proofs.Asked.{any_from_range}
+use Rattle.lists.proofs.Asked.{any_from_range}
 use Rattle.bodies.proofs.Backings.{IsOver, over_found}
 use Rattle.bodies.proofs.enums.is_narrow.Goals as goal
 

@@ -1,5 +1,5 @@
 -- The ordinal, and then the name.
-use Rattle.bodies.proofs.Ordinals.{named_found}
+use Rattle.lists.proofs.Ordinals.{named_found}
 use Rattle.bodies.proofs.message.check_ordinal_and_name.Goals as goal
 
 pub returns : goal.returns

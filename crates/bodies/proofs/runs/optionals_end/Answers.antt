@@ -7,4 +7,4 @@ use Rattle.bodies.proofs.runs.optionals_end.Goals as goal
 pub returns : goal.returns
 returns c =
     run_on _ _ _ _ _ _ (omega arith) c.optional_fours.ensures.0 c.optional_fours.ensures.1
-    (rw (c.from-others.ensures.range, c.from-others.ensures.context) at (c.run_end.ensures.run (λ kind. nat_eq kind Kind.Optional) (λ kind r h. search rules)))
+    (rw (c.from-others.ensures.within (omega arith), c.from-others.ensures.context) at (c.run_end.ensures.run (λ kind. nat_eq kind Kind.Optional) (λ kind r h. search rules)))

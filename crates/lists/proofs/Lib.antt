@@ -1,0 +1,12 @@
+pub mod Among
+pub mod Asked
+pub mod Collecting
+pub mod Entered
+pub mod Kept
+pub mod Marks
+pub mod Narrow
+pub mod Ordinals
+pub mod Passing
+pub mod ReadKinds
+pub mod Slots
+pub mod WholeBytes

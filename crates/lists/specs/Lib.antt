@@ -1,0 +1,9 @@
+pub mod Earlier
+pub mod Items
+pub mod Kept
+pub mod Met
+pub mod MetAt
+pub mod Named
+pub mod Ordinal
+pub mod Seen
+pub mod Slots
