@@ -1,4 +1,6 @@
 // The files of the current folder. No contract can say what a read brings; what is made of the bytes stands in `text`.
+ghost use Rattle.std.specs.Prelude.{◌≤◌, length};
+
 use crate::text::lines;
 use report::SIZE;
 use rules::Sheet;
@@ -19,7 +21,9 @@ fn explain(rt: &impl Eprint, path: &str, error: io::Error) {
 }
 
 // Reads until `buf` is full, the file ends or a read fails, and returns the bytes that were read.
-fn read_full<'a>(file: &mut impl Read, buf: &'a mut [u8]) -> &'a [u8] {
+fn read_full<'a>(file: &mut impl Read, buf: &'a mut [u8]) -> &'a [u8]
+    ensures { length result.now ≤ length buf.old }
+{
     let mut done = 0;
     // No `read_exact`, which does not say how much it read where the file ends.
     while done < buf.len() {
@@ -32,7 +36,9 @@ fn read_full<'a>(file: &mut impl Read, buf: &'a mut [u8]) -> &'a [u8] {
 }
 
 // Returns the first bytes of a file, as many as `buf` holds. A missing file is empty.
-fn read<'a>(rt: &(impl Files + Eprint), path: &str, buf: &'a mut [u8]) -> &'a [u8] {
+fn read<'a>(rt: &(impl Files + Eprint), path: &str, buf: &'a mut [u8]) -> &'a [u8]
+    ensures { length result.now ≤ length buf.old }
+{
     match fs::open(rt, path) {
         Ok(mut file) => read_full(&mut file, buf),
         Err(error) => {
