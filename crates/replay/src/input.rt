@@ -69,13 +69,13 @@ fn next_answer(file: &mut impl Read) -> Result<AnswerValues, Fault> {
 pub fn start(file: &mut impl Read) -> Result<u32, Fault> {
     let first = next_number(file)?;
     let second = next_number(file)?;
+    // Judged before the count is read: on a pipe that read may wait.
+    if !recorded::is_magic(first, second) {
+        return Err(Fault);
+    }
     let count = next_number(file)?;
     let high = next_number(file)?;
-    if recorded::is_magic(first, second) && high == 0 {
-        Ok(count)
-    } else {
-        Err(Fault)
-    }
+    if high == 0 { Ok(count) } else { Err(Fault) }
 }
 
 // Whether nothing is left.
