@@ -10,7 +10,8 @@ use crate::bytes::{name_end, value};
 use rules::{Refusal, Sheet};
 use sheet::kinds;
 
-// What byte 1 is to be less than, if there is such a kind: how many subs the kind has; 256 for a kind without a sub, whose byte 1 may be any.
+// What byte 1 is to be less than, if there is such a kind: how many subs the kind has; 256 for a kind without a sub, whose byte 1 may be any. An arm for
+// each kind is compiled to a table, and ranges of kinds to one test after another.
 // By a test of the kinds that there are and by how many subs they have, in turn, `exercise` takes 8 in 100 more instructions, and is at its aim (0.46 of the ready tree on one
 // machine, 0.54 on another; the aim is 0.5).
 #[tactic(auto, unfolding(rules::specs::Words::look_up))]
@@ -19,18 +20,45 @@ fn sub_limit(kind: u8) -> Option<u16>
 {
     match kind {
         kinds::DECLARATION => Some(10),
+        kinds::IMPORTED_NAME => Some(256),
+        kinds::WILDCARD => Some(256),
         kinds::HEAD => Some(5),
+        kinds::FIELD => Some(256),
+        kinds::FIELD_TOMBSTONE => Some(256),
+        kinds::INVARIANT => Some(256),
+        kinds::VARIANT => Some(256),
+        kinds::TOMBSTONE => Some(256),
         kinds::BACKING => Some(4),
+        kinds::ANNOTATION => Some(256),
+        kinds::ARGUMENT => Some(6),
+        kinds::BIT_NAME => Some(256),
         kinds::PRIMITIVE => Some(14),
-        kinds::RANGE | kinds::LEN_RANGE => Some(2),
-        kinds::ARGUMENT | kinds::SEMANTIC | kinds::CMP | kinds::LEN_CMP | kinds::OPERAND => Some(6),
-        kinds::IMPORTED_NAME..=kinds::WILDCARD
-        | kinds::FIELD..=kinds::TOMBSTONE
-        | kinds::ANNOTATION
-        | kinds::BIT_NAME
-        | kinds::SUB_BYTE
-        | kinds::NAMED..=kinds::BITS_INLINE
-        | kinds::AND..=kinds::NOT => Some(256),
+        kinds::SUB_BYTE => Some(256),
+        kinds::SEMANTIC => Some(6),
+        kinds::NAMED => Some(256),
+        kinds::QUALIFIED => Some(256),
+        kinds::GENERIC => Some(256),
+        kinds::OPTIONAL => Some(256),
+        kinds::ARRAY => Some(256),
+        kinds::FIXED_ARRAY => Some(256),
+        kinds::SET => Some(256),
+        kinds::MAP => Some(256),
+        kinds::RESULT => Some(256),
+        kinds::VEC2 => Some(256),
+        kinds::VEC3 => Some(256),
+        kinds::VEC4 => Some(256),
+        kinds::QUAT => Some(256),
+        kinds::MAT3 => Some(256),
+        kinds::MAT4 => Some(256),
+        kinds::BITS_INLINE => Some(256),
+        kinds::AND => Some(256),
+        kinds::OR => Some(256),
+        kinds::NOT => Some(256),
+        kinds::CMP => Some(6),
+        kinds::RANGE => Some(2),
+        kinds::LEN_CMP => Some(6),
+        kinds::LEN_RANGE => Some(2),
+        kinds::OPERAND => Some(6),
         _ => None,
     }
 }
