@@ -58,6 +58,25 @@ impl Slots {
             self.behind[slot(id)] = (i + 1) as u16;
         }
     }
+
+    // Puts the names of those of the records from record `start` up to record `end` that are of the kind into their slots. Mostly that is one record, the
+    // type between two fields, which needs no loop.
+    #[inline(always)]
+    fn put_between(&mut self, records: NamedRecords, start: usize, end: usize)
+        requires before { HasNames records self.old.behind start }
+        requires ordered { start ≤ end }
+        requires few { end ≤ max_records }
+        requires whole { end * record_size ≤ length records.context.sheet.now }
+        ensures { HasNames records.entry self.new.behind end }
+    {
+        if end == start + 1 {
+            self.put(records, start);
+            return;
+        }
+        for i in start..end {
+            self.put(records, i);
+        }
+    }
 }
 
 // The names of the records of a kind. Those of the records before record `end` are in the slots.
@@ -125,9 +144,7 @@ impl<'a> MetNames<'a> {
         if (i < self.end) | (Sheet::MAX_RECORDS <= i) | (count <= i) {
             return records.is_met(i);
         }
-        for j in self.end..i {
-            self.slots.put(records, j);
-        }
+        self.slots.put_between(records, self.end, i);
         let met = self.slots.is_met(records, i);
         self.slots.put(records, i);
         self.end = i + 1;

@@ -110,9 +110,11 @@ impl Numbers {
         ensures met { result.met ≡ met_before (items_of list.now) i ordinal }
         ensures known { KnownBefore list.now self.new (i + 1) }
     {
-        let Ok(number) = u32::try_from(ordinal) else {
+        if Sheet::MAX_ORDINAL < ordinal {
             return list.tell(i, ordinal);
-        };
+        }
+        // the answer of `u32::try_from` is made and then asked, which takes five instructions more for each item
+        let number = ordinal as u32;
         if self.marks[mark(number)] {
             let told = self.tell(number);
             self.keep(number);
@@ -142,6 +144,10 @@ impl Numbers {
     {
         let records = list.records;
         let item = list.item;
+        // mostly one record is passed, the type between two fields, which needs no loop
+        if (end == start + 1) && (records.kind_within(start) != item) {
+            return;
+        }
         for i in start..end {
             if records.kind_within(i) != item {
                 continue;
