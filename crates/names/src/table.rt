@@ -57,7 +57,11 @@ fn record_at(place: u16) -> Option<usize>
 fn is_zero(numbers: &[u16]) -> bool
     ensures { result ≡ true → (k : ℕ) → k < length numbers.now → get_or numbers.now k 0 ≡ 0 }
 {
-    numbers.iter().all(|number| *number == 0)
+    let mut all = true;
+    for number in numbers {
+        all &= *number == 0;
+    }
+    all
 }
 
 impl NameTable {
