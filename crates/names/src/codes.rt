@@ -49,13 +49,6 @@ impl<'a> Spelling<'a> {
         }
     }
 
-    // The names text.
-    pub fn names(&self) -> &'a [u8]
-        ensures { result.now ≡ self.now.names }
-    {
-        self.names
-    }
-
     // Whether all bytes of block `k` may go on in a name, which is kept. It stands apart, so that a walk over good blocks stays short.
     #[inline(never)]
     fn look(&mut self, k: usize) -> bool

@@ -15,12 +15,12 @@ fn own_bytes(sheet: &[u8], i: usize) -> &[u8]
     &sheet[at..at + Sheet::RECORD]
 }
 
-// Whether the record with these bytes has a name, and the name fits.
-#[tactic(auto, unfolding(crate::specs::Parts::record_of, rules::specs::Record::decode))]
+// Whether the record with these bytes has a name, and the name fits. `fits` of `sheet` would ask once more whether there is a name.
+#[tactic(auto, using(crate::proofs::Numbers::named_by))]
 fn is_named(own: &[u8], names: &[u8]) -> bool
     ensures { result ≡ is_named (record_of own.now names.now 0) }
 {
-    sheet::has_name(own, 0) && sheet::fits(own, names, 0)
+    sheet::has_name(own, 0) && sheet::name_offset(own, 0) + sheet::name_len(own, 0) <= names.len()
 }
 
 // The name of the record with these bytes, which has one that fits: that part of the names text.

@@ -22,7 +22,7 @@ pub fn read_records(sheet: &[u8], names: &[u8], table: &mut NameTable)
     let marks = sheet::name_marks();
     let mut spelling = Spelling::new(&marks, names);
     for i in 0..count(sheet) {
-        read(sheet, &mut spelling, &mut chains, table, i);
+        read(sheet, names, &mut spelling, &mut chains, table, i);
     }
 }
 

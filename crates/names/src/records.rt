@@ -33,19 +33,20 @@ fn next_code(named: &Named, spelling: &mut Spelling) -> u16
 // Stores the id and the code of record `i`, and notes what it says of its name. A record without a fitting name is its own, and has code 0.
 //
 // One loop alone has what is lent here; a struct of it would hold the table by `&mut`, and its one method would have these clauses with `self.` before
-// each name.
+// each name. The names text, which `spelling` has, is lent beside it: read through a `&mut`, it would be loaded anew for each record.
 #[tactic(auto, using(crate::proofs::Known::known_bounds))]
 pub fn read(
     sheet: &[u8],
+    names: &[u8],
     spelling: &mut Spelling,
     chains: &mut Chains,
     table: &mut NameTable,
     i: usize,
 )
-    requires { (i < known_count sheet.now) × Chained sheet.now spelling.old.names chains.old.heads chains.old.links i × Read sheet.now spelling.old.names table.old i i }
-    ensures { (spelling.new ≡ spelling.old) × Chained sheet.now spelling.old.names chains.new.heads chains.new.links (i + 1) × Read sheet.now spelling.old.names table.new (i + 1) (i + 1) }
+    requires { (i < known_count sheet.now) × (spelling.old.names ≡ names.now) × Chained sheet.now names.now chains.old.heads chains.old.links i × Read sheet.now names.now table.old i i }
+    ensures { (spelling.new ≡ spelling.old) × Chained sheet.now names.now chains.new.heads chains.new.links (i + 1) × Read sheet.now names.now table.new (i + 1) (i + 1) }
 {
-    let Some(named) = Named::read(sheet, spelling.names(), i) else {
+    let Some(named) = Named::read(sheet, names, i) else {
         table.set_id(i, i);
         return;
     };
