@@ -107,8 +107,21 @@ impl<'a> Spelling<'a> {
         true
     }
 
+    // Whether all bytes of the first record's name may go on. It stands apart, so that a short name needs nothing of what a long one does.
+    #[inline(never)]
+    #[tactic(auto, using(crate::proofs::Numbers::named_by, crate::proofs::Numbers::name_by))]
+    fn name_continues(&mut self, sheet: &[u8]) -> bool
+        requires { is_named (record_of sheet.now self.old.names 0) ≡ true }
+        ensures told { result ≡ continue_by self.old.marks (name_in self.old.names (record_bytes sheet.now 0)) }
+        ensures same { self.new ≡ self.old }
+    {
+        let start = sheet::name_offset(sheet, 0);
+        let end = start + sheet::name_len(sheet, 0);
+        self.part_continues(start, end)
+    }
+
     // Whether a bit may have the name, which is that of the first record.
-    #[tactic(auto, using(crate::proofs::Blocks::spelled, crate::proofs::Numbers::named_by, crate::proofs::Numbers::name_by))]
+    #[tactic(auto, using(crate::proofs::Blocks::spelled))]
     pub fn is_valid(&mut self, sheet: &[u8], name: &[u8]) -> bool
         requires { (is_named (record_of sheet.now self.old.names 0) ≡ true) × (name.now ≡ name_in self.old.names (record_bytes sheet.now 0)) }
         ensures told { result ≡ valid_field_name name.now }
@@ -123,8 +136,6 @@ impl<'a> Spelling<'a> {
         if name.len() <= BLOCK {
             return sheet::continue_by(self.marks, name);
         }
-        let start = sheet::name_offset(sheet, 0);
-        let end = start + sheet::name_len(sheet, 0);
-        self.part_continues(start, end)
+        self.name_continues(sheet)
     }
 }
