@@ -29,7 +29,8 @@ fn windows_same(a: &[u8], b: &[u8], n: usize) -> bool
     if !window_same(a, b, last, n) {
         return false;
     }
-    for k in 0..last.div_ceil(n) {
+    // where the length is a multiple of `n`, the last one is looked at twice: so few are counted with one division
+    for k in 0..last / n + 1 {
         if !window_same(a, b, k * n, n) {
             return false;
         }
