@@ -53,7 +53,7 @@ fn record_at(place: u16) -> Option<usize>
     place.checked_sub(1).map(usize::from)
 }
 
-// Whether each number is 0.
+// Whether each number is 0. No number ends the loop early, so that many are looked at at once; `all` looks at one after another.
 fn is_zero(numbers: &[u16]) -> bool
     ensures { result ≡ true → (k : ℕ) → k < length numbers.now → get_or numbers.now k 0 ≡ 0 }
 {
