@@ -187,10 +187,11 @@ impl State {
     fn type_goes_on(self, due: &Due, kind: u8) -> bool
         ensures { result ≡ true → GoesOn self due.now kind }
     {
-        (self.body == Body::Message)
-            & (self.item == Item::Typed)
-            & !due.is_empty()
-            & sheet::is_type(kind)
+        // most records stand where nothing is due, and one test says so
+        !due.is_empty()
+            && (self.item == Item::Typed)
+            && (self.body == Body::Message)
+            && sheet::is_type(kind)
     }
 
     // Takes a record of the kind and the sub, or finds it at fault by row 6 or 7.
