@@ -1,5 +1,4 @@
--- Two names have the same bytes if they are of one length and the window of all their indices passes. Compared byte by byte, they are the
--- same just if what follows is, as long as the bytes agree.
+-- Two names have the same bytes if they are of one length and the window of all their indices passes. A walk by smaller windows says that it does.
 use Prim.Native.Nat.{ℕ, suc, ◌+◌, ◌≤◌, ◌<◌}
 use mathlib.Core.Path.{◌≡◌, refl, ◌∙◌, sym, ap}
 use mathlib.Core.Bool.{Bool, true, false, and-false}
