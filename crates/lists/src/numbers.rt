@@ -113,7 +113,7 @@ impl Numbers {
         if Sheet::MAX_ORDINAL < ordinal {
             return list.tell(i, ordinal);
         }
-        // the answer of `u32::try_from` is made and then asked, which takes five instructions more for each item
+        // by `u32::try_from` an answer would be made and then asked, five instructions more for each item
         let number = ordinal as u32;
         if self.marks[mark(number)] {
             let told = self.tell(number);

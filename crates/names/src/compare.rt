@@ -29,7 +29,7 @@ fn windows_same(a: &[u8], b: &[u8], n: usize) -> bool
     if !window_same(a, b, last, n) {
         return false;
     }
-    // where the length is a multiple of `n`, the last one is looked at twice: so few are counted with one division
+    // where the length is a multiple of `n`, the last window is looked at twice: so one division counts them, and no test of what it leaves
     for k in 0..last / n + 1 {
         if !window_same(a, b, k * n, n) {
             return false;
