@@ -1,13 +1,13 @@
 -- Two names have the same bytes if they are of one length and the window of all their indices passes. A walk by smaller windows says that it does.
-use Prim.Native.Nat.{ℕ, suc, ◌+◌, ◌≤◌, ◌<◌}
-use mathlib.Core.Path.{◌≡◌, refl, ◌∙◌, sym, ap}
-use mathlib.Core.Bool.{Bool, true, false, and-false}
+use Prim.Native.Nat.{ℕ, suc}
+use mathlib.Core.Path.{◌≡◌, refl, ◌∙◌, ap}
+use mathlib.Core.Bool.{Bool, false, and-false}
 use mathlib.Core.List.{List, [], ◌∷◌}
 use native.Mathlib.Omega.{arith}
 use lib.ListN.{length}
 use Rattle.rules.specs.Words.{same_bytes}
 use Rattle.sheet.specs.Window.{passes}
-use Rattle.sheet.proofs.Windows.{Walked, none-fails, one_more, window-done, window-fails, walk-starts, walk-goes-on, walk_ends, windows-meet}
+use Rattle.sheet.proofs.Windows.{none-fails, one_more, window-done, window-fails, walk-starts, walk-goes-on, walk_ends}
 use Rattle.sheet.proofs.Windows.{behind-first}
 use Rattle.names.specs.Same.{same_at}
 
@@ -30,20 +30,5 @@ windows-same (x ∷ a) (y ∷ b) l =
 pub all_same : (a b : List ℕ) (all : Bool) → length a ≡ length b → all ≡ passes (same_at a b) 0 (length a) → all ≡ same_bytes a b
 all_same a b all l e = e ∙ windows-same a b l
 
--- the window that is walked over last ends where the last one starts or later
-pub walk_done : (test : ℕ → Bool) (n size last i : ℕ) (window : Bool) → Walked test n size last i → window ≡ passes test i n → window ≡ true → i < last → last ≤ i + n → true ≡ passes test 0 size
-walk_done test n size last i window walked w t l m = walk_ends test n size last (i + n) (walk-goes-on test n size last i walked window w t l) m
-
--- one window more, which may be the last
-pub walk_goes_on : (test : ℕ → Bool) (n size last i : ℕ) (window : Bool) → Walked test n size last i → window ≡ passes test i n → window ≡ true → i + n ≤ size → Walked test n size last (i + n)
-walk_goes_on test n size last i window walked w t l =
-    record {
-      some = walked.some;
-      end = walked.end;
-      within = l;
-      before = sym t ∙ windows-meet test i i n (i + n) true window walked.before w refl (omega arith) (omega arith);
-      behind = walked.behind;
-    }
-
 -- what decides whether two names have the same bytes, window by window
-pub ruleset windows = (none-fails, one_more, window-done, window-fails, walk-starts, walk-goes-on, walk_ends, walk_done, walk_goes_on, lengths_differ, all_same)
+pub ruleset windows = (none-fails, one_more, window-done, window-fails, walk-starts, walk-goes-on, walk_ends, lengths_differ, all_same)

@@ -71,12 +71,13 @@ module _ (test : ℕ → Bool) where
         record { some = some; end = end; within = omega arith; before = none-fails 0; behind = sym t ∙ w }
 
     module _ (i : ℕ) (walked : Walked n size last i) where
-      pub walk-goes-on : (window : Bool) → window ≡ passes test i n → window ≡ true → i < last → Walked n size last (i + n)
+      -- one window more, which may be the last
+      pub walk-goes-on : (window : Bool) → window ≡ passes test i n → window ≡ true → i + n ≤ size → Walked n size last (i + n)
       walk-goes-on window w t l =
           record {
             some = walked.some;
             end = walked.end;
-            within = omega arith;
+            within = l;
             before = sym t ∙ windows-meet i i n (i + n) true window walked.before w refl (omega arith) (omega arith);
             behind = walked.behind;
           }
